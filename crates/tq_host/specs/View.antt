@@ -1,0 +1,79 @@
+-- What a host tells at a moment.
+use Rattle.std.specs.Prelude.{◌≡◌, ◌≤◌, ◌<◌, ℕ, List}
+
+-- The meanings that a host may tell, each by itself.
+pub record Told : Type 1 where
+  pub reads : Type 0  -- what each device reads
+  pub script : Type 0  -- the script left
+  pub output : Type 0  -- the output so far, with a stamp per byte, and the takes
+  pub stops : Type 0  -- what a stop may leave
+
+pub record TellsAll (tells : Told) : Type 0 where
+  pub reads : tells.reads
+  pub script : tells.script
+  pub output : tells.output
+  pub stops : tells.stops
+
+-- The moment at which a byte of the output was given: the device count so far, and what each device read then.
+pub record Stamp : Type 0 where
+  pub faults : ℕ
+  pub reads : ℕ → List ℕ
+
+-- A take that answered Ok: the script bytes taken and the output bytes given before it.
+pub record TakeStamp : Type 0 where
+  pub taken : ℕ
+  pub given : ℕ
+
+-- The input and the output.
+pub record Streams : Type 0 where
+  pub script : List ℕ  -- what is left
+  pub taken : ℕ  -- the number of script bytes taken so far
+  pub takes : List TakeStamp
+  pub output : List ℕ
+  pub stamps : List Stamp
+  pub input_faults : ℕ
+  pub output_faults : ℕ
+
+-- What a stop leaves: one image per device, each chosen by itself, and the output of that moment.
+pub record Picture : Type 0 where
+  pub images : ℕ → List ℕ
+  pub output : List ℕ
+
+pub record View : Type 1 where
+  pub clock : ℕ
+  pub faults : ℕ  -- the device count
+  pub streams : Streams
+  pub reads : ℕ → List ℕ
+  pub may_leave : ℕ → List ℕ → Type 0  -- the images that a stop now may leave of a device
+  pub left_since : ℕ → Picture → Type 0  -- the pictures of a moment from this clock on
+
+-- the last value of a clock or a count
+abbrev pub last : ℕ
+last = 18446744073709551615
+
+-- the images of a picture are of this moment
+abbrev pub AreNow : View → (ℕ → List ℕ) → Type 0
+AreNow v images = (d : ℕ) → v.may_leave d (images d)
+
+-- a picture of this moment
+pub record IsNow (v : View) (p : Picture) : Type 0 where
+  pub images : AreNow v p.images
+  pub output : p.output ≡ v.streams.output
+
+-- nothing is pending on a device: its one image is what it reads
+abbrev pub IsSettled : ℕ → View → Type 0
+IsSettled dev v = (c : List ℕ) → v.may_leave dev c → c ≡ v.reads dev
+
+-- What holds of a host at each moment.
+pub record IsLawful (tells : Told) (v : View) : Type 0 where
+  -- what a device reads is one of the images that a stop may leave
+  pub reads_an_image : tells.stops → (d : ℕ) → v.may_leave d (v.reads d)
+  -- only a host that tells what a stop may leave has images, and it tells what is read too
+  pub stops_told : (d : ℕ) (c : List ℕ) → v.may_leave d c → tells.stops
+  pub reads_told : tells.stops → tells.reads
+  -- since this moment there is no other
+  pub only_now : (p : Picture) → v.left_since v.clock p → IsNow v p
+  -- a picture of this moment is one since each earlier moment
+  pub counts_now : (t : ℕ) (p : Picture) → t ≤ v.clock → IsNow v p → v.left_since t p
+  -- where a moment can be told from the next one, the clock has not come to its end
+  pub goes_on : tells.stops → v.clock < last
