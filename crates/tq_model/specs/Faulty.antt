@@ -1,0 +1,110 @@
+-- A run whose devices may fail: the states of the machine, as a function of what the host tells at the end of the run.
+use Rattle.std.specs.Prelude.{◌≡◌, ℕ, ◌+◌, ◌-◌, ◌==◌, nat_lt, Bool, true, false, if◌then◌else◌, List, [], ◌∷◌, ◌++◌, length, get_or, take, filter, map, Option, Some, None, Any}
+use Rattle.tq_model.specs.declared.answer.Answer.{Answer}
+use Rattle.tq_model.specs.declared.answer.Answer.TheVariants.{Done, Syntax, SystemError, TooLong as TooLongLine}
+use Rattle.tq_model.specs.declared.request.Request.{Request}
+use Rattle.tq_model.specs.declared.request.Request.TheVariants.{Nothing, Boot, Bad, TooLong, Device}
+use Rattle.tq_model.specs.Site.{Site, durable}
+use Rattle.tq_model.specs.Step.{step, can_boot, booted, boot}
+use Rattle.tq_model.specs.Text.{line_text}
+use Rattle.tq_model.specs.Reading.{site_found}
+
+-- up with a site, or down with the durable sites of which the devices may stand for any
+pub data Condition : Type 0 where
+  Up : Site → Condition
+  Down : List Site → Condition
+
+-- What a host tells of a run: the device count when it began and when it ended, and with each byte of the run's output the
+-- device count and what each device read then.
+pub record Trace : Type 0 where
+  pub devices : ℕ  -- the number of device words
+  pub before : ℕ
+  pub counts : List ℕ
+  pub reads : List (ℕ → List ℕ)
+  pub after : ℕ
+
+-- the count told with the last byte before this one
+abbrev pub count_before : Trace → ℕ → ℕ
+count_before trace at = if at == 0 then trace.before else get_or trace.counts (at - 1) trace.after
+
+-- the count told with this byte
+abbrev pub count_at : Trace → ℕ → ℕ
+count_at trace at = get_or trace.counts at trace.after
+
+-- whether the device count rose in the step whose text begins at this byte of the output
+abbrev pub rose_at : Trace → ℕ → Bool
+rose_at trace at = nat_lt (count_before trace at) (count_at trace at)
+
+-- the site for which the devices stood when the last byte before this one was given
+abbrev pub found_at : Trace → ℕ → Option Site
+found_at trace at = site_found trace.devices (get_or trace.reads (at - 1) (λ d. []))
+
+pub record Turn : Type 0 where
+  pub condition : Condition
+  pub answer : Answer
+
+-- A boot: up again, or down where the epoch cannot be raised.
+abbrev pub boot_turn : Site → Turn
+boot_turn s = let outcome = boot s in record { condition = if can_boot s then Up outcome.site else Down (outcome.site ∷ []); answer = outcome.answer }
+
+-- Up, and the count does not rise: the machine's own step.
+abbrev pub steady_turn : Site → Request → Turn
+steady_turn s Boot = boot_turn s
+steady_turn s request = let outcome = step s request in record { condition = Up outcome.site; answer = outcome.answer }
+
+-- Up, and the count rises: down, before or after the step.
+abbrev pub failing_turn : Site → Request → Turn
+failing_turn s request = record { condition = Down (durable s ∷ durable (step s request).site ∷ []); answer = SystemError }
+
+-- Down, and a boot is asked for: it takes what the devices stand for, or fails and may have raised an epoch.
+abbrev pub reboot_turn : Bool → Option Site → List Site → Turn
+reboot_turn true found sites = record { condition = Down (sites ++ map booted (filter can_boot sites)); answer = SystemError }
+reboot_turn false None sites = record { condition = Down sites; answer = SystemError }
+reboot_turn false (Some s) sites = boot_turn s
+
+-- Down, and anything else is asked for: only what asks for nothing is answered as ever.
+abbrev pub down_answer : Request → Answer
+down_answer Nothing = Done
+down_answer (Bad column) = Syntax column
+down_answer TooLong = TooLongLine
+down_answer Boot = SystemError
+down_answer (Device request) = SystemError
+
+abbrev pub down_turn : Bool → Option Site → List Site → Request → Turn
+down_turn rose found sites Boot = reboot_turn rose found sites
+down_turn rose found sites request = record { condition = Down sites; answer = down_answer request }
+
+-- the turn of a request whose text begins at this byte of the output
+abbrev pub turn : Trace → ℕ → Condition → Request → Turn
+turn trace at (Up s) request = if rose_at trace at then failing_turn s request else steady_turn s request
+turn trace at (Down sites) request = down_turn (rose_at trace at) (found_at trace at) sites request
+
+-- how far a run is
+pub record Progress : Type 0 where
+  pub condition : Condition
+  pub text : List ℕ  -- the texts of all answers so far
+  pub line : ℕ  -- the number of the next line
+
+abbrev pub advance : Trace → Progress → Request → Progress
+advance trace p request = let t = turn trace (length p.text) p.condition request in record { condition = t.condition; text = p.text ++ line_text p.line t.answer; line = p.line + 1 }
+
+abbrev pub after : Trace → Progress → List Request → Progress
+after trace p [] = p
+after trace p (request ∷ requests) = after trace (advance trace p request) requests
+
+-- before line 0, which is a boot of the site that is found
+abbrev pub beginning : Site → Progress
+beginning s = record { condition = Up s; text = []; line = 0 }
+
+-- The machine after the first k steps over these requests, the boot of line 0 being the first.
+abbrev pub machine_after : Trace → Site → List Request → ℕ → Progress
+machine_after trace s requests k = after trace (beginning s) (take k (Boot ∷ requests))
+
+-- Images, one per device, stand for a site.
+abbrev pub StandFor : ℕ → (ℕ → List ℕ) → Site → Type 0
+StandFor devices images s = site_found devices images ≡ Some (durable s)
+
+-- they stand for a state: its site, or one of its sites
+abbrev pub StandForState : ℕ → (ℕ → List ℕ) → Condition → Type 0
+StandForState devices images (Up s) = StandFor devices images s
+StandForState devices images (Down sites) = Any (StandFor devices images) sites

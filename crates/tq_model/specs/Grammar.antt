@@ -1,0 +1,222 @@
+-- What the bytes of a script spell: one request a line. The verbs stand in a table; another verb is another row.
+use Rattle.std.specs.Prelude.{ℕ, zero, suc, ◌+◌, ◌-◌, ◌==◌, ◌&&◌, not, nat_lt, nat_le, Bool, true, false, if◌then◌else◌, List, [], ◌∷◌, length, take, drop, get_or, map, codes, Option, Some, None, option_map}
+use Rattle.std.specs.List.{list_all, list_any, before_first, after_first}
+use Rattle.std.specs.Char.{is_ascii_digit}
+use Rattle.std.specs.Str.{bytes_eq}
+use Rattle.std.specs.Str.Parse.{digits_value}
+use Rattle.tq_model.specs.declared.grammar.Verb.{Verb}
+use Rattle.tq_model.specs.declared.grammar.Verb.TheVariants.{CreateDevice, ListDevice}
+use Rattle.tq_model.specs.declared.grammar.Kind.{Kind}
+use Rattle.tq_model.specs.declared.grammar.Kind.TheVariants as kinds
+use Rattle.tq_model.specs.declared.grammar.Key.{Key}
+use Rattle.tq_model.specs.declared.grammar.Key.TheVariants as keys
+use Rattle.tq_model.specs.declared.grammar.Value.{Value}
+use Rattle.tq_model.specs.declared.grammar.Value.TheVariants.{Number}
+use Rattle.tq_model.specs.declared.request.Request.{Request}
+use Rattle.tq_model.specs.declared.request.Request.TheVariants.{Nothing, Bad, TooLong, Device}
+use Rattle.tq_model.specs.declared.request.DeviceRequest.TheVariants.{Create, List as ListOf}
+
+-- Lines
+
+-- one byte more at the head of the first line
+abbrev pub with_byte : ℕ → List (List ℕ) → List (List ℕ)
+with_byte b [] = (b ∷ []) ∷ []
+with_byte b (line ∷ lines) = (b ∷ line) ∷ lines
+
+-- The lines of a script: each ends at a byte 10, which belongs to none; bytes after the last one are a last line.
+abbrev pub script_lines : List ℕ → List (List ℕ)
+script_lines [] = []
+script_lines (b ∷ bytes) = if b == 10 then [] ∷ script_lines bytes else with_byte b (script_lines bytes)
+
+-- Words
+
+pub record Word : Type 0 where
+  pub column : ℕ  -- of its first byte, from 1
+  pub bytes : List ℕ
+
+-- where in a word a byte stands: outside quotes, inside them, or inside behind a backslash
+pub data Place : Type 0 where
+  Plain : Place
+  Quoted : Place
+  Escaped : Place
+
+-- the place behind a byte
+abbrev pub place_after : Place → ℕ → Place
+place_after Plain b = if b == 34 then Quoted else Plain
+place_after Quoted b = if b == 92 then Escaped else (if b == 34 then Plain else Quoted)
+place_after Escaped b = Quoted
+
+-- a space outside quotes ends a word
+abbrev pub ends_word : Place → ℕ → Bool
+ends_word Plain b = b == 32
+ends_word Quoted b = false
+ends_word Escaped b = false
+
+-- how many of these bytes belong to the word in which they stand
+abbrev pub word_length : Place → List ℕ → ℕ
+word_length place [] = 0
+word_length place (b ∷ bytes) = if ends_word place b then 0 else suc (word_length (place_after place b) bytes)
+
+-- at most so many words of bytes of which the first has that column
+abbrev pub words_from : ℕ → ℕ → List ℕ → List Word
+words_from zero column bytes = []
+words_from (suc most) column [] = []
+words_from (suc most) column (b ∷ bytes) = if b == 32 then words_from most (column + 1) bytes else
+    let n = word_length Plain (b ∷ bytes) in
+    record { column = column; bytes = take n (b ∷ bytes) } ∷ words_from most (column + n) (drop n (b ∷ bytes))
+
+-- a line has no more words than bytes
+abbrev pub line_words : List ℕ → List Word
+line_words line = words_from (length line) 1 line
+
+-- Kinds
+
+-- one to twenty decimal digits
+abbrev pub is_numeral : List ℕ → Bool
+is_numeral word = nat_le 1 (length word) && nat_le (length word) 20 && list_all is_ascii_digit word
+
+abbrev pub number_between : ℕ → ℕ → List ℕ → Option Value
+number_between low high word =
+    let n = digits_value 10 word in
+    if is_numeral word && nat_le low n && nat_le n high then Some (Number n) else None
+
+-- what a word of a kind spells, and None where it is not of that kind
+abbrev pub value_of : Kind → List ℕ → Option Value
+value_of kinds.Device word = number_between 0 7 word
+value_of kinds.Number word = number_between 0 18446744073709551615 word
+
+-- The table
+
+abbrev pub verb_word : Verb → List ℕ
+verb_word CreateDevice = codes "crdl"
+verb_word ListDevice = codes "lidl"
+
+abbrev pub key_word : Key → List ℕ
+key_word keys.Site = codes "site"
+
+-- a key of a verb
+pub record KeyRow : Type 0 where
+  pub key : Key
+  pub kind : Kind
+  pub required : Bool
+
+-- a verb: its positional words and its keys
+pub record Row : Type 0 where
+  pub positional : List Kind
+  pub keyed : List KeyRow
+
+abbrev pub row_of : Verb → Row
+row_of CreateDevice = record { positional = kinds.Device ∷ kinds.Number ∷ []; keyed = (record { key = keys.Site; kind = kinds.Number; required = false }) ∷ [] }
+row_of ListDevice = record { positional = kinds.Device ∷ []; keyed = [] }
+
+abbrev pub verbs : List Verb
+verbs = CreateDevice ∷ ListDevice ∷ []
+
+abbrev pub verb_among : List Verb → List ℕ → Option Verb
+verb_among [] word = None
+verb_among (verb ∷ verbs) word = if bytes_eq word (verb_word verb) then Some verb else verb_among verbs word
+
+abbrev pub verb_named : List ℕ → Option Verb
+verb_named word = verb_among verbs word
+
+-- Reading the words behind a verb, from left to right
+
+pub record Given : Type 0 where
+  pub key : Key
+  pub value : Value
+
+pub data Scan : Type 0 where
+  Misfit : ℕ → Scan  -- the column of the first word that does not fit
+  Missing : Scan  -- all words fit, and one is missing
+  Spelt : List Value → List Given → Scan
+
+abbrev pub with_value : Value → Scan → Scan
+with_value v (Misfit column) = Misfit column
+with_value v Missing = Missing
+with_value v (Spelt values given) = Spelt (v ∷ values) given
+
+abbrev pub with_given : Given → Scan → Scan
+with_given g (Misfit column) = Misfit column
+with_given g Missing = Missing
+with_given g (Spelt values given) = Spelt values (g ∷ given)
+
+-- the key of that name among the rows
+abbrev pub key_among : List KeyRow → List ℕ → Option KeyRow
+key_among [] name = None
+key_among (row ∷ rows) name = if bytes_eq name (key_word row.key) then Some row else key_among rows name
+
+abbrev pub is_same_key : Key → Key → Bool
+is_same_key keys.Site keys.Site = true
+
+-- the rows without that key, which may be given only once
+abbrev pub rows_without : Key → List KeyRow → List KeyRow
+rows_without key [] = []
+rows_without key (row ∷ rows) = if is_same_key key row.key then rows_without key rows else row ∷ rows_without key rows
+
+abbrev pub given_of : Option KeyRow → List ℕ → Option Given
+given_of None text = None
+given_of (Some row) text = option_map (λ v. record { key = row.key; value = v }) (value_of row.kind text)
+
+-- what a keyed word gives: a key that is still to be had, an equals sign and a value of the key's kind
+abbrev pub keyed_value : List KeyRow → List ℕ → Option Given
+keyed_value rows word = if list_any (λ b. b == 61) word then given_of (key_among rows (before_first (λ b. b == 61) word)) (after_first (λ b. b == 61) word) else None
+
+abbrev pub after_key : Option Given → ℕ → (Key → Scan) → Scan
+after_key None column rest = Misfit column
+after_key (Some g) column rest = with_given g (rest g.key)
+
+-- the keyed words; the rows are of the keys that may still be given
+abbrev pub scan_keyed : List KeyRow → List Word → Scan
+scan_keyed rows [] = if list_any (λ (row : KeyRow). row.required) rows then Missing else Spelt [] []
+scan_keyed rows (w ∷ words) = after_key (keyed_value rows w.bytes) w.column (λ key. scan_keyed (rows_without key rows) words)
+
+abbrev pub after_value : Option Value → ℕ → Scan → Scan
+after_value None column rest = Misfit column
+after_value (Some v) column rest = with_value v rest
+
+-- the positional words, and then the keyed ones
+abbrev pub scan : List Kind → List KeyRow → List Word → Scan
+scan [] rows words = scan_keyed rows words
+scan (kind ∷ positional) rows [] = Missing
+scan (kind ∷ positional) rows (w ∷ words) = after_value (value_of kind w.bytes) w.column (scan positional rows words)
+
+-- Requests
+
+abbrev pub number_in : Value → Option ℕ
+number_in (Number n) = Some n
+
+-- the number that was given with a key
+abbrev pub number_given : Key → List Given → Option ℕ
+number_given key [] = None
+number_given key (g ∷ given) = if is_same_key key g.key then number_in g.value else number_given key given
+
+-- what a verb with these words asks for
+abbrev pub request_of : Verb → List Value → List Given → Request
+request_of CreateDevice (Number dev ∷ Number clusters ∷ []) given = Device (Create (record { dev = dev; clusters = clusters; site = number_given keys.Site given }))
+request_of ListDevice (Number dev ∷ []) given = Device (ListOf dev)
+request_of verb values given = Nothing
+
+-- the column behind a line of that length is where a missing word should begin
+abbrev pub scanned : ℕ → Verb → Scan → Request
+scanned size verb (Misfit column) = Bad column
+scanned size verb Missing = Bad (size + 1)
+scanned size verb (Spelt values given) = request_of verb values given
+
+abbrev pub verb_request : ℕ → ℕ → Option Verb → List Word → Request
+verb_request size column None words = Bad column
+verb_request size column (Some verb) words = scanned size verb (scan (row_of verb).positional (row_of verb).keyed words)
+
+abbrev pub words_request : ℕ → List Word → Request
+words_request size [] = Nothing
+words_request size (w ∷ words) = if get_or w.bytes 0 0 == 35 then Nothing else verb_request size w.column (verb_named w.bytes) words
+
+-- the most bytes of a line, its end left out
+abbrev pub longest_line : ℕ
+longest_line = 262144
+
+abbrev pub line_request : List ℕ → Request
+line_request line = if nat_lt longest_line (length line) then TooLong else words_request (length line) (line_words line)
+
+-- what a script asks for, line by line
+abbrev pub script_requests : List ℕ → List Request
+script_requests script = map line_request (script_lines script)

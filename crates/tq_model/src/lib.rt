@@ -1,0 +1,11 @@
+//! The serial queue machine: its values, its steps and its texts, as definitions that every other
+//! crate cites, and `Machine`, the slow plain program that computes them.
+#![tactic(auto)]
+
+mod answer;
+mod grammar;
+mod request;
+
+pub use answer::{Answer, Capacity, DeviceAnswer, Field, Identity, Listing, Readiness};
+pub use grammar::{Key, Kind, Value, Verb};
+pub use request::{Creation, DeviceRequest, Request};
