@@ -3,6 +3,7 @@
 
 mod contents;
 mod call;
+mod calls;
 mod counts;
 mod host;
 mod kind;

@@ -72,7 +72,7 @@ impl Outside {
         Ok(())
     }
 
-    fn keep_write(&mut self, dev: u8, at: usize, from: &[u8]) -> Result<(), AllocError>
+    pub fn keep_write(&mut self, dev: u8, at: usize, from: &[u8]) -> Result<(), AllocError>
         requires dev { dev < 8 }
         requires begin { at ≤ length ((state_of self.old).disks dev).seen }
         ensures { IsKept (write dev at from.now) result (account_of self.old) (account_of self.new) }
@@ -82,14 +82,14 @@ impl Outside {
         self.keep(dev, Call::Write(dev, at as u64, bytes), next)
     }
 
-    fn keep_lost_write(&mut self, dev: u8, at: usize, from: &[u8]) -> Result<(), AllocError>
+    pub fn keep_lost_write(&mut self, dev: u8, at: usize, from: &[u8]) -> Result<(), AllocError>
         ensures { IsKept (lost_write dev at from.now) result (account_of self.old) (account_of self.new) }
     {
         let bytes = from.to_vec(self.alloc)?;
         self.note(Call::LostWrite(dev, at as u64, bytes))
     }
 
-    fn keep_size(&mut self, dev: u8, n: usize) -> Result<(), AllocError>
+    pub fn keep_size(&mut self, dev: u8, n: usize) -> Result<(), AllocError>
         requires { dev < 8 }
         ensures { IsKept (resize dev n) result (account_of self.old) (account_of self.new) }
     {
@@ -97,25 +97,25 @@ impl Outside {
         self.keep(dev, Call::Resize(dev, n as u64), next)
     }
 
-    fn keep_lost_size(&mut self, dev: u8, n: usize) -> Result<(), AllocError>
+    pub fn keep_lost_size(&mut self, dev: u8, n: usize) -> Result<(), AllocError>
         ensures { IsKept (lost_resize dev n) result (account_of self.old) (account_of self.new) }
     {
         self.note(Call::LostResize(dev, n as u64))
     }
 
-    fn keep_sync(&mut self, dev: u8) -> Result<(), AllocError>
+    pub fn keep_sync(&mut self, dev: u8) -> Result<(), AllocError>
         ensures { IsKept (sync dev) result (account_of self.old) (account_of self.new) }
     {
         self.note(Call::Sync(dev))
     }
 
-    fn keep_pass(&mut self, kind: CallKind) -> Result<(), AllocError>
+    pub fn keep_pass(&mut self, kind: CallKind) -> Result<(), AllocError>
         ensures { IsKept (pass kind) result (account_of self.old) (account_of self.new) }
     {
         self.note(Call::Pass(kind))
     }
 
-    fn keep_take(&mut self, count: usize) -> Result<(), AllocError>
+    pub fn keep_take(&mut self, count: usize) -> Result<(), AllocError>
         requires { count ≤ length self.old.script.items - self.old.taken }
         ensures kept { IsKept (take_some count) result (account_of self.old) (account_of self.new) }
     {
@@ -124,7 +124,7 @@ impl Outside {
         Ok(())
     }
 
-    fn keep_give(&mut self, from: &[u8]) -> Result<(), AllocError>
+    pub fn keep_give(&mut self, from: &[u8]) -> Result<(), AllocError>
         ensures { IsKept (give_all from.now self.old.counts.device) result (account_of self.old) (account_of self.new) }
     {
         let bytes = from.to_vec(self.alloc)?;
