@@ -23,10 +23,6 @@ pub events_push : (calls : List Call) (call : Call) → events_of (calls ++ call
 events_push [] call = refl
 events_push (first ∷ calls) call = ap (λ (l : List Event). event_of first ∷ l) (events_push calls call)
 
-pub events_long : (calls : List Call) → length (events_of calls) ≡ length calls
-events_long [] = refl
-events_long (call ∷ calls) = ap suc (events_long calls)
-
 -- the events after one more call
 pub events_after : (calls later : List Call) (call : Call) → later ≡ calls ++ call ∷ [] → events_of later ≡ events_of calls ++ event_of call ∷ []
 events_after calls later call is = ap events_of is ∙ events_push calls call
@@ -80,18 +76,6 @@ keeps_more (first ∷ events) s event (suc t) p left = keeps_more events (step f
 -- no picture is forgotten
 pub keeps_later : (events later : List Event) (event : Event) → later ≡ events ++ event ∷ [] → (t : ℕ) (p : Picture) → LeftSince blank t events p → LeftSince blank t later p
 keeps_later events later event is t p left = subst (λ (l : List Event). LeftSince blank t l p) (sym is) (keeps_more events blank event t p left)
-
--- since the last moment there is no other
-pub last_shot : (events : List Event) (s : State) (p : Picture) → LeftSince s (length events) events p → IsShot (replay s events) p
-last_shot [] s p shot = shot
-last_shot (event ∷ events) s p shot = last_shot events (step event s) p shot
-
--- a picture of the last moment is one since each earlier one
-pub counts_now : (events : List Event) (s : State) (t : ℕ) (p : Picture) → t ≤ length events → IsShot (replay s events) p → LeftSince s t events p
-counts_now [] s zero p le shot = shot
-counts_now [] s (suc t) p le shot = absurd (omega arith)
-counts_now (event ∷ events) s zero p le shot = inr (counts_now events (step event s) zero p (omega arith) shot)
-counts_now (event ∷ events) s (suc t) p le shot = counts_now events (step event s) t p (omega arith) shot
 
 -- One device
 

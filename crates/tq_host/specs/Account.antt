@@ -3,7 +3,7 @@ use Rattle.std.specs.Prelude.{◌≡◌, ◌⊎◌, ℕ, List, [], ◌∷◌, �
 use Rattle.tq_host.specs.declared.counts.Counts.{Counts}
 use Rattle.tq_host.specs.declared.counts.Part.{Part}
 use Rattle.tq_host.specs.declared.host.Failed.{Failed}
-use Rattle.tq_host.specs.Counts.{raised}
+use Rattle.tq_host.specs.Counts.{raised, NoneFalls}
 use Rattle.tq_host.specs.View.{Told, View}
 use Rattle.tq_host.specs.Disk.{IsImage}
 use Rattle.tq_host.specs.Events.{Event, blank, replay, LeftSince}
@@ -47,5 +47,6 @@ pub record IsKept {T E : Type 0} (event : Event) (result : Result T E) (old new 
 -- where its record found no memory.
 pub record IsRecorded {T : Type 0} (part : Part) (result : Result T Failed) (success : T → Event) (failure : Event) (old new : Account) : Type 0 where
   pub script : new.script ≡ old.script
+  pub later : NoneFalls old.counts new.counts
   pub done : IfOk result (λ x. (new.events ≡ old.events ++ success x ∷ []) × (new.counts ≡ old.counts))
   pub failed : OnErr result (((new.events ≡ old.events ++ failure ∷ []) ⊎ (new.events ≡ old.events)) × (new.counts ≡ raised part old.counts))

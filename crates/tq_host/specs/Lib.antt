@@ -8,3 +8,5 @@ pub mod Account
 pub mod Kinds
 pub mod Plan
 pub mod Outside
+pub mod Memory
+pub mod Lawful

@@ -1,19 +1,22 @@
 ghost use Rattle.std.specs.Prelude.{◌≡◌, ◌<◌, ◌≤◌, ◌+◌, ◌-◌, length, min, take, drop, ◌++◌, IfOk, OnOk, IsTrue, IsErr};
 ghost use Rattle.tq_host.specs.declared.counts.Part.TheVariants.{Devices, Input, Output};
 ghost use Rattle.tq_host.specs.declared.kind.CallKind.TheVariants as kind;
-ghost use Rattle.tq_host.specs.Counts.{raised};
+ghost use Rattle.tq_host.specs.Counts.{raised, NoneFalls};
 ghost use Rattle.tq_host.specs.Calls.{StandsAt};
 ghost use Rattle.tq_host.specs.Events.{write, lost_write, resize, lost_resize, sync, take_some, give_all, pass};
 ghost use Rattle.tq_host.specs.Account.{IsRecorded};
 ghost use Rattle.tq_host.specs.Outside.{account_of, state_of};
 
+use crate::counts::Part;
 use crate::outside::Outside;
-use crate::{CallKind, Failed, Part};
+use crate::{CallKind, Failed};
 
 impl Outside {
     // The call failed, with nothing more done.
     fn fail<T>(&mut self, part: Part) -> Result<T, Failed>
         ensures account { account_of self.new ≡ record (account_of self.old) { counts = raised part self.old.counts } }
+        ensures grown { NoneFalls self.old.counts self.new.counts }
+        ensures devices { self.new.devices ≡ self.old.devices }
         ensures err { IsErr result }
     {
         self.counts.raise(part);
@@ -24,10 +27,35 @@ impl Outside {
     pub fn look(&mut self, kind: CallKind, fails: bool) -> Result<(), Failed>
         ensures recorded { IsRecorded Devices result (λ _. pass kind) (pass kind) (account_of self.old) (account_of self.new) }
         ensures planned { IsTrue fails → IsErr result }
+        ensures devices { self.new.devices ≡ self.old.devices }
     {
         if self.keep_pass(kind).is_err() || fails {
             return self.fail(Part::Devices);
         }
+        Ok(())
+    }
+
+    /// The device's length.
+    pub fn size(&mut self, dev: u8, fails: bool) -> Result<u64, Failed>
+        requires { dev < 8 }
+        ensures recorded { IsRecorded Devices result (λ _. pass kind.Length) (pass kind.Length) (account_of self.old) (account_of self.new) }
+        ensures planned { IsTrue fails → IsErr result }
+        ensures size { IfOk result (λ n. n ≡ length ((state_of self.old).disks dev).seen) }
+    {
+        self.look(CallKind::Length, fails)?;
+        Ok(self.devices[dev as usize].len() as u64)
+    }
+
+    /// Reads the bytes from that address on.
+    pub fn read(&mut self, dev: u8, at: usize, into: &mut [u8], fails: bool) -> Result<(), Failed>
+        requires dev { dev < 8 }
+        requires within { at + length into.old ≤ length ((state_of self.old).disks dev).seen }
+        ensures recorded { IsRecorded Devices result (λ _. pass kind.Read) (pass kind.Read) (account_of self.old) (account_of self.new) }
+        ensures planned { IsTrue fails → IsErr result }
+        ensures bytes { OnOk result (StandsAt at into.new ((state_of self.old).disks dev).seen) }
+    {
+        self.look(CallKind::Read, fails)?;
+        into.copy_from_slice(&self.devices[dev as usize][at..at + into.len()]);
         Ok(())
     }
 

@@ -1,7 +1,5 @@
-ghost use Rattle.std.specs.Prelude.{◌≡◌, IsErr};
-ghost use Rattle.tq_host.specs.Counts.{no_faults, raised};
-
-use crate::Failed;
+ghost use Rattle.std.specs.Prelude.{◌≡◌};
+ghost use Rattle.tq_host.specs.Counts.{no_faults, raised, NoneFalls};
 
 /// The part of the outside that a call belongs to.
 #[derive(Clone, Copy, Debug, PartialEq, Eq)]
@@ -33,7 +31,8 @@ impl Counts {
 
     /// One more call on this part failed. A count at its last value stays there.
     pub fn raise(&mut self, part: Part)
-        ensures { self.new ≡ raised part self.old }
+        ensures raised { self.new ≡ raised part self.old }
+        ensures grown { NoneFalls self.old self.new }
     {
         match part {
             Part::Devices => self.device = self.device.saturating_add(1),

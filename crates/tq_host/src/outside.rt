@@ -8,9 +8,10 @@ ghost use Rattle.tq_host.specs.View.{last};
 ghost use Rattle.tq_host.specs.Events.{Event, event_of, events_of, load, write, lost_write, resize, lost_resize, sync, take_some, give_all, pass, State, blank, step, replay, IsFine, Shows, LeadsTo, LeavesAll};
 ghost use Rattle.tq_host.specs.Account.{Account, IsKept, IsRecorded};
 
-use crate::contents::{empty_devices, overwritten, push_call, resized};
 use crate::call::Call;
-use crate::{CallKind, Counts, Failed, Part};
+use crate::contents::{empty_devices, overwritten, push_call, resized};
+use crate::counts::{Counts, Part};
+use crate::{CallKind, Failed};
 use std::alloc::{AllocError, Global};
 
 /// The devices, the input and the output, with all calls that led to them.
@@ -66,7 +67,8 @@ impl Outside {
     // One more call, after which all that is read, taken and given is as before.
     fn note(&mut self, call: Call) -> Result<(), AllocError>
         requires { LeavesAll (state_of self.old) (step (event_of call) (state_of self.old)) }
-        ensures { IsKept (event_of call) result (account_of self.old) (account_of self.new) }
+        ensures kept { IsKept (event_of call) result (account_of self.old) (account_of self.new) }
+        ensures devices { self.new.devices ≡ self.old.devices }
     {
         push_call(&mut self.calls, call)?;
         Ok(())
@@ -110,7 +112,8 @@ impl Outside {
     }
 
     pub fn keep_pass(&mut self, kind: CallKind) -> Result<(), AllocError>
-        ensures { IsKept (pass kind) result (account_of self.old) (account_of self.new) }
+        ensures kept { IsKept (pass kind) result (account_of self.old) (account_of self.new) }
+        ensures devices { self.new.devices ≡ self.old.devices }
     {
         self.note(Call::Pass(kind))
     }
