@@ -9,4 +9,5 @@ pub mod Kinds
 pub mod Plan
 pub mod Outside
 pub mod Memory
+pub mod Fused
 pub mod Lawful
