@@ -1,7 +1,8 @@
 -- Bytes on a device.
 use Rattle.std.proofs.Common.{◌≡◌, ◌⊎◌, inl, inr, ⊎_elim, ◌<◌, ◌≤◌, ℕ, suc, ◌+◌, ◌-◌, List, [], ◌∷◌, ◌++◌, length, get_or, refl, sym, ◌∙◌, ap, subst, arith, length-append}
 use Rattle.std.proofs.lemmas.List.{get_or_append_left, get_or-append_right}
-use Rattle.tq_host.specs.Calls.{StandsAt, IsSameOutside, IsSameBut, IsTorn, IsPulled}
+use Rattle.tq_host.specs.Calls.{StandsAt, IsSameOutside, IsSameBut, IsTorn, IsWritten, IsPulled}
+use Rattle.tq_host.proofs.Steps.{IsSteps}
 
 pub before_or_after : (i n : ℕ) → (i < n) ⊎ (n ≤ i)
 before_or_after i n = grind arith
@@ -43,3 +44,40 @@ torn_none at n c = record { outside = λ i out. refl; no_shorter = omega arith; 
 
 pub pulled_none : (n : ℕ) (c : List ℕ) → IsPulled n c c
 pulled_none n c = record { front = λ i lt. refl; no_shorter = omega arith; no_longer = omega arith }
+
+-- Steps that leave all as it is, and two that are one
+
+-- the same but for n bytes
+pub same_but_steps : (at n : ℕ) → IsSteps (IsSameBut at n)
+same_but_steps at n = record {
+  none = λ c. record { outside = λ i out. refl; size = refl };
+  both = λ a b c first second. record { outside = λ i out. second.outside i out ∙ first.outside i out; size = second.size ∙ first.size };
+}
+
+-- a whole write within a range changes nothing else, where the range lies within the length
+pub written_within : (at size w : ℕ) (bytes b c : List ℕ) → at ≤ w → w + length bytes ≤ at + size → at + size ≤ length b → IsWritten w bytes b c → IsSameBut at size b c
+written_within at size w bytes b c from to long written = record {
+  outside = λ i out. written.outside i (⊎_elim (λ before. inl (omega arith)) (λ after. inr (omega arith)) out);
+  size = omega (arith, written.size);
+}
+
+-- a smaller range lies within a larger one
+pub same_but_wider : (at n wide m : ℕ) (b c : List ℕ) → wide ≤ at → at + n ≤ wide + m → IsSameBut at n b c → IsSameBut wide m b c
+same_but_wider at n wide m b c from to same = record {
+  outside = λ i out. same.outside i (⊎_elim (λ before. inl (omega arith)) (λ after. inr (omega arith)) out);
+  size = same.size;
+}
+
+-- a part of bytes that stand
+pub stands_first : (a : ℕ) (xs ys c : List ℕ) → StandsAt a (xs ++ ys) c → StandsAt a xs c
+stands_first a xs ys c stands i lt = stands i (omega (arith, lt, length-append xs ys)) ∙ get_or_append_left xs ys 0 i lt
+
+pub stands_second : (a : ℕ) (xs ys c : List ℕ) → StandsAt a (xs ++ ys) c → StandsAt (a + length xs) ys c
+stands_second a xs ys c stands i lt =
+    let e : a + length xs + i ≡ a + (length xs + i) = omega arith in
+    let k : length xs + i - length xs ≡ i = omega arith in
+    ap (λ n. get_or c n 0) e ∙ stands (length xs + i) (omega (arith, lt, length-append xs ys)) ∙ get_or-append_right xs ys (length xs) (length xs + i) 0 refl (omega arith) ∙ ap (λ n. get_or ys n 0) k
+
+-- bytes that stand in both images are equal
+pub stands_same : (a : ℕ) (xs ys c : List ℕ) → length xs ≡ length ys → StandsAt a xs c → StandsAt a ys c → xs ≡ ys
+stands_same a xs ys c long first second = same_bytes xs ys long (λ i lt. sym (first i (omega (arith, lt, long))) ∙ second i lt)

@@ -1,4 +1,9 @@
+pub mod Steps
 pub mod Bytes
-pub mod Images
-pub mod Replaying
-pub mod Views
+pub mod Within
+pub mod Running
+pub mod Resting
+pub mod Causes
+mod Images
+mod Replaying
+mod Views
