@@ -1,7 +1,7 @@
 -- How the causes of failed calls go on from call to call.
-use Rattle.std.proofs.Common.{◌≡◌, ◌<◌, ◌≤◌, ℕ, Result, Ok, Err, refl, sym, subst, arith}
+use Rattle.std.proofs.Common.{◌≡◌, ◌<◌, ◌≤◌, ℕ, Result, Ok, Err, refl, subst, arith}
 use Rattle.std.specs.Prelude.{IsErr}
-use Rattle.tq_host.specs.Calls.{HasCause, HasCauseOf, Rose}
+use Rattle.tq_host.specs.Calls.{HasCause, HasCauseOf}
 
 no_err : (T E : Type 0) (x : T) → IsErr {T = T} {E = E} (Ok x) → ⊥
 no_err T E x err = cc

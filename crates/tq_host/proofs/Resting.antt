@@ -1,5 +1,5 @@
 -- What calls on one device leave.
-use Rattle.std.proofs.Common.{◌≡◌, ◌≢◌, ℕ, List, Result, refl, ◌∙◌, arith}
+use Rattle.std.proofs.Common.{ℕ, List, Result, refl, ◌∙◌, arith}
 use Rattle.tq_host.specs.declared.host.Failed.{Failed}
 use Rattle.tq_host.specs.View.{View}
 use Rattle.tq_host.specs.Calls.{IsDeviceCall, IsStill, Changes}

@@ -1,6 +1,5 @@
 -- What a call on a host in memory does to what it tells.
-use Rattle.std.proofs.Common.{◌≡◌, ◌≢◌, ◌⊎◌, inl, inr, ⊎_elim, ◌<◌, ◌≤◌, ℕ, zero, suc, ◌+◌, ◌-◌, min, List, [], ◌∷◌, ◌++◌, length, get_or, take, drop, Result, Ok, Err, OnOk, OnErr, IfOk, refl, sym, ◌∙◌, ap, subst, arith, length-append, length-drop}
-use Rattle.std.specs.Prelude.{replicate, ◌↔◌}
+use Rattle.std.proofs.Common.{◌≡◌, ◌≢◌, ◌⊎◌, inl, inr, ⊎_elim, ◌<◌, ◌≤◌, ℕ, ◌+◌, ◌-◌, min, List, [], ◌∷◌, ◌++◌, length, take, drop, Result, Ok, Err, OnOk, IfOk, refl, sym, ◌∙◌, ap, subst, arith, length-append, length-drop}
 use Rattle.std.proofs.lemmas.List.{append-nil, take_all, take_at, drop_all, drop-drop, length-take}
 use Rattle.std.proofs.lemmas.Bool.{cases_eq}
 use Rattle.tq_host.specs.declared.host.Failed.{Failed}
@@ -9,13 +8,13 @@ use Rattle.tq_host.specs.declared.counts.Part.{Part}
 use Rattle.tq_host.specs.declared.counts.Part.TheVariants.{Devices, Input, Output}
 use Rattle.tq_host.specs.declared.kind.CallKind.{CallKind}
 use Rattle.tq_host.specs.declared.outside.Outside.{Outside}
-use Rattle.tq_host.specs.View.{Picture, Streams, TakeStamp, last, IsNow}
-use Rattle.tq_host.specs.Calls.{Changes, IsStill, Syncs, Elapses, Keeps, Ticks, IsDeviceCall, IsStreamCall, Gives, IsGiving, ElapsesGiving, Takes, IsWritten, IsTorn, IsResized, IsPulled, next}
+use Rattle.tq_host.specs.View.{Picture, last}
+use Rattle.tq_host.specs.Calls.{Changes, IsStill, Syncs, Elapses, Keeps, Ticks, IsDeviceCall, IsStreamCall, Gives, IsGiving, ElapsesGiving, Takes, IsWritten, IsTorn, IsResized, IsPulled}
 use Rattle.tq_host.specs.Counts.{raised}
 use Rattle.tq_host.specs.Disk.{Disk, IsImage, settled, written, tried_write, resized, tried_resize}
-use Rattle.tq_host.specs.Events.{Event, load, write, lost_write, resize, lost_resize, sync, take_some, give_all, pass, events_of, State, blank, put, step, replay, IsShot, IsDuring, LeftSince, IsFine}
+use Rattle.tq_host.specs.Events.{Event, load, write, lost_write, resize, lost_resize, sync, take_some, give_all, pass, State, blank, put, step, replay, IsShot, IsDuring, LeftSince, IsFine}
 use Rattle.tq_host.specs.Account.{Account, everything, view_of, IsRecorded}
-use Rattle.tq_host.specs.Outside.{account_of, state_of}
+use Rattle.tq_host.specs.Outside.{account_of}
 use Rattle.tq_host.specs.Memory.{IsLoaded}
 use Rattle.tq_host.specs.Lawful.{counts_now, events_long}
 use Rattle.tq_host.proofs.Bytes.{torn_none, pulled_none}

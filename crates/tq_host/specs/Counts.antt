@@ -1,5 +1,5 @@
 -- The three counts of failed calls.
-use Rattle.std.specs.Prelude.{ℕ, ◌≤◌}
+use Rattle.std.specs.Prelude.{◌≤◌}
 use Rattle.tq_host.specs.declared.counts.Counts.{Counts}
 use Rattle.tq_host.specs.declared.counts.Part.{Part}
 use Rattle.tq_host.specs.declared.counts.Part.TheVariants.{Devices, Input, Output}

@@ -1,5 +1,5 @@
 -- A host whose later calls fail: what it tells is what the host inside tells, with the failed calls of its own counted too.
-use Rattle.std.specs.Prelude.{◌≡◌, ◌<◌, ℕ, ◌+◌, Result, IsErr}
+use Rattle.std.specs.Prelude.{◌≡◌, ◌<◌, ◌+◌, Result, IsErr}
 use Rattle.tq_host.specs.declared.counts.Counts.{Counts}
 use Rattle.tq_host.specs.declared.counts.Part.{Part}
 use Rattle.tq_host.specs.declared.fuse.Fuse.{Fuse}

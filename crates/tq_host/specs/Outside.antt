@@ -1,5 +1,4 @@
 -- What the outside in memory keeps.
-use Rattle.std.specs.Prelude.{◌≡◌, ℕ, length}
 use Rattle.tq_host.specs.declared.outside.Outside.{Outside}
 use Rattle.tq_host.specs.Account.{Account}
 use Rattle.tq_host.specs.Events.{State, blank, replay, events_of}

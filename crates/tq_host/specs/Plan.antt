@@ -1,5 +1,5 @@
 -- The calls that are to fail.
-use Rattle.std.specs.Prelude.{◌≡◌, ◌⊎◌, ℕ, List, [], ◌∷◌, ◌++◌, get_or, set, Contains}
+use Rattle.std.specs.Prelude.{◌≡◌, ◌⊎◌, ℕ, [], ◌∷◌, ◌++◌, get_or, set, Contains}
 use Rattle.tq_host.specs.declared.kind.CallKind.{CallKind}
 use Rattle.tq_host.specs.declared.plan.Planned.{Planned}
 use Rattle.tq_host.specs.declared.plan.Planned.TheVariants.{Call, OfKind}

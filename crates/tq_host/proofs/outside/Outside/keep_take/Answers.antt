@@ -1,6 +1,6 @@
 use Rattle.std.proofs.Common.{◌+◌, sym, ◌∙◌, ap, subst, arith}
 use Rattle.tq_host.specs.declared.call.Call.TheVariants.{Take}
-use Rattle.tq_host.specs.Events.{State, blank, replay, events_of, IsFine}
+use Rattle.tq_host.specs.Events.{State, IsFine}
 use Rattle.tq_host.proofs.Replaying.{after_call}
 use Rattle.tq_host.proofs.outside.Outside.keep_take.Goals as goal
 

@@ -1,7 +1,7 @@
-use Rattle.std.proofs.Common.{◌≡◌, ◌<◌, List, ◌++◌, [], ◌∷◌, length, refl, sym, ◌∙◌, ap, subst}
+use Rattle.std.proofs.Common.{◌≡◌, ◌<◌, List, ◌++◌, [], ◌∷◌, length, refl, sym, ◌∙◌, subst}
 use Rattle.tq_host.specs.declared.call.Call.{Call}
 use Rattle.tq_host.specs.View.{last}
-use Rattle.tq_host.specs.Events.{State, blank, replay, events_of, IsFine, LeavesAll}
+use Rattle.tq_host.specs.Events.{State, blank, replay, events_of, LeavesAll}
 use Rattle.tq_host.proofs.Replaying.{after_call, either}
 use Rattle.tq_host.proofs.outside.Outside.note.Goals as goal
 
