@@ -1,5 +1,5 @@
 -- No line's text is empty: it ends with a line end.
-use Rattle.std.proofs.Common.{◌≡◌, ℕ, ◌<◌, ◌++◌, ◌∷◌, [], length, arith, length-append}
+use Rattle.std.proofs.Common.{ℕ, ◌<◌, ◌++◌, ◌∷◌, [], length, arith, length-append}
 use Rattle.std.specs.Prelude.{decimal}
 use Rattle.tq_model.specs.declared.answer.Answer.{Answer}
 use Rattle.tq_model.specs.Text.{line_text, answer_text}
