@@ -4,8 +4,12 @@
 
 mod answer;
 mod grammar;
+mod machine;
 mod request;
+#[cfg(test)]
+mod tests;
 
 pub use answer::{Answer, Capacity, DeviceAnswer, Field, Identity, Listing, Readiness};
 pub use grammar::{Key, Kind, Value, Verb};
+pub use machine::Machine;
 pub use request::{Creation, DeviceRequest, Request};
