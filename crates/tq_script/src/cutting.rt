@@ -72,9 +72,9 @@ fn word_start(bytes: &[u8]) -> Option<usize>
 /// What is left of a line.
 #[derive(Clone, Copy)]
 pub struct Words<'a> {
-    rest: &'a [u8],
+    pub rest: &'a [u8],
     /// Of the first byte that is left, from 1.
-    column: u64,
+    pub column: u64,
     ghost bounded: { column + length rest.now ≤ longest_line + 1 },
 }
 

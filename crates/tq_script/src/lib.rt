@@ -4,8 +4,13 @@
 
 mod bytes;
 mod cutting;
+mod keys;
 mod lines;
 mod numerals;
+mod reading;
+mod requests;
 mod table;
+mod unread;
 
 pub use lines::first_line;
+pub use requests::parse;

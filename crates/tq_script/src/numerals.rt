@@ -1,4 +1,6 @@
 ghost use Rattle.std.specs.Prelude.{◌≡◌};
+ghost use Rattle.std.specs.Char.{is_ascii_digit};
+ghost use Rattle.std.specs.List.{list_all};
 ghost use Rattle.tq_model.specs.Grammar.{is_numeral, number_between};
 ghost use Rattle.tq_script.specs.Numerals.{number_of};
 
@@ -26,7 +28,9 @@ fn number_of(word: &[u8]) -> Option<u64>
     if !is_numeral(word) {
         return None;
     }
-    let text = std::str::from_utf8(word).ok()?;
+    let Ok(text) = std::str::from_utf8(word) else {
+        return None;
+    };
     text.parse().ok()
 }
 
@@ -34,5 +38,11 @@ fn number_of(word: &[u8]) -> Option<u64>
 fn is_numeral(word: &[u8]) -> bool
     ensures { result ≡ is_numeral word.now }
 {
-    !word.is_empty() && word.len() <= MOST_DIGITS && word.iter().all(|byte| byte.is_ascii_digit())
+    !word.is_empty() && word.len() <= MOST_DIGITS && all_digits(word)
+}
+
+fn all_digits(word: &[u8]) -> bool
+    ensures { result ≡ list_all is_ascii_digit word.now }
+{
+    word.iter().all(|byte| byte.is_ascii_digit())
 }
