@@ -52,6 +52,6 @@ number_of-read {E} word (Ok x) h read =
 number_of-read {E} word (Err e) h read =
     let is = parse_digits own {E = E} 64 word (Err e) read (numeral-digits word h) in
     elim (cases_lt (digits_value 10 word) (2 ^ 64)) [
-        inl l ↦ absurd (is (numeral-some word h, l))
+      | inl l ↦ absurd (is (numeral-some word h, l))
       | inr l ↦ sym (number_of-large word h l)
-      ]
+    ]

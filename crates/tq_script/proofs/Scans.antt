@@ -63,9 +63,9 @@ keyed_value-some rows word at row v there named spelt =
 pub rows_without-filter : (key : Key) (rows : List table.KeyRow) → map key_row_of (filter (λ row. not (is_same_key key row.key)) rows) ≡ rows_without key (map key_row_of rows)
 rows_without-filter key [] = refl
 rows_without-filter key (row ∷ rows) = elim (cases_Bool (is_same_key key row.key)) [
-    inl h ↦ rw h (rows_without-filter key rows)
+  | inl h ↦ rw h (rows_without-filter key rows)
   | inr h ↦ rw h (ap (λ (others : List KeyRow). key_row_of row ∷ others) (rows_without-filter key rows))
-  ]
+]
 
 -- where what follows was not read, neither was the whole
 pub ReadsAs-behind : {X Y : Type 0} (e : Unread) (values : List Value) (whole part : Scan) (then : X → Scan) (later : Y → Scan) → whole ≡ with_read values [] part →

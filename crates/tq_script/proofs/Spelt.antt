@@ -29,9 +29,9 @@ keyed-values (Some g) column rest step values given e = let more = spelt-given g
 
 scan_keyed-values : (rows : List KeyRow) (words : List Word) (values : List Value) (given : List Given) → scan_keyed rows words ≡ Spelt values given → values ≡ []
 scan_keyed-values rows [] values given e = elim (cases_Bool (list_any (λ (row : KeyRow). row.required) rows)) [
-    inl h ↦ let missing : Missing ≡ Spelt values given = rw h at e in absurd (cc)
+  | inl h ↦ let missing : Missing ≡ Spelt values given = rw h at e in absurd (cc)
   | inr h ↦ let spelt : Spelt [] [] ≡ Spelt values given = rw h at e in cc
-  ]
+]
 scan_keyed-values rows (w ∷ words) values given e =
     keyed-values (keyed_value rows w.bytes) w.column (λ key. scan_keyed (rows_without key rows) words)
     (λ key later later_given same. scan_keyed-values (rows_without key rows) words later later_given same) values given e
@@ -39,10 +39,10 @@ scan_keyed-values rows (w ∷ words) values given e =
 -- a value is of its kind
 number-between : (low high : ℕ) (word : List ℕ) (v : Value) → number_between low high word ≡ Some v → (n : ℕ) × (v ≡ Number n) × (n ≤ high)
 number-between low high word v e = elim (cases_Bool (is_numeral word && leb low (digits_value 10 word) && leb (digits_value 10 word) high)) [
-    inl h ↦ let is : Some (Number (digits_value 10 word)) ≡ Some v = rw h at e in
-        (digits_value 10 word, (let same : v ≡ Number (digits_value 10 word) = cc in same), leb-true _ _ (and_parts _ _ h).1)
+  | inl h ↦ let is : Some (Number (digits_value 10 word)) ≡ Some v = rw h at e in
+      (digits_value 10 word, (let same : v ≡ Number (digits_value 10 word) = cc in same), leb-true _ _ (and_parts _ _ h).1)
   | inr h ↦ let none : Option Value = None in let is : none ≡ Some v = rw h at e in absurd (cc)
-  ]
+]
 
 IsOfKind-value : (kind : Kind) (word : List ℕ) (v : Value) → value_of kind word ≡ Some v → IsOfKind kind v
 IsOfKind-value kinds.Device word v e = let is = number-between 0 7 word v e in rw is.1 is.2

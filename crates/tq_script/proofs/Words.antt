@@ -29,17 +29,17 @@ words_from-enough (suc n) (suc m) column [] p q = refl
 words_from-enough zero (suc m) column (b ∷ bytes) p q = absurd (omega arith)
 words_from-enough (suc n) zero column (b ∷ bytes) p q = absurd (omega arith)
 words_from-enough (suc n) (suc m) column (b ∷ bytes) p q = elim (cases_Bool (b == 32)) [
-    inl h ↦ words_from-space n column b bytes h
-        ∙ words_from-enough n m (column + 1) bytes (omega arith) (omega arith)
-        ∙ sym (words_from-space m column b bytes h)
+  | inl h ↦ words_from-space n column b bytes h
+      ∙ words_from-enough n m (column + 1) bytes (omega arith) (omega arith)
+      ∙ sym (words_from-space m column b bytes h)
   | inr h ↦
-        let k : ℕ = word_length Plain (b ∷ bytes) in
-        let one : 1 ≤ k = word_length-one b bytes h in
-        let rest : length (drop k (b ∷ bytes)) ≡ length (b ∷ bytes) - k = length-drop k (b ∷ bytes) in
-        words_from-word n column b bytes h
-        ∙ ap (λ (words : List Word). word_at column (take k (b ∷ bytes)) ∷ words) (words_from-enough n m (column + k) (drop k (b ∷ bytes)) (omega arith) (omega arith))
-        ∙ sym (words_from-word m column b bytes h)
-  ]
+      let k : ℕ = word_length Plain (b ∷ bytes) in
+      let one : 1 ≤ k = word_length-one b bytes h in
+      let rest : length (drop k (b ∷ bytes)) ≡ length (b ∷ bytes) - k = length-drop k (b ∷ bytes) in
+      words_from-word n column b bytes h
+      ∙ ap (λ (words : List Word). word_at column (take k (b ∷ bytes)) ∷ words) (words_from-enough n m (column + k) (drop k (b ∷ bytes)) (omega arith) (omega arith))
+      ∙ sym (words_from-word m column b bytes h)
+]
 
 -- the first byte that is no space
 abbrev pub spaces : List ℕ → ℕ
@@ -55,20 +55,20 @@ spaces-none b bytes h = rw h refl
 pub words_of-spaces : (column : ℕ) (bytes : List ℕ) → words_of column bytes ≡ words_of (column + spaces bytes) (drop (spaces bytes) bytes)
 words_of-spaces column [] = refl
 words_of-spaces column (b ∷ bytes) = elim (cases_Bool (b == 32)) [
-    inl h ↦ words_from-space (length bytes) column b bytes h
-        ∙ words_of-spaces (column + 1) bytes
-        ∙ rw (spaces-more b bytes h) (ap (λ (c : ℕ). words_of c (drop (spaces bytes) bytes)) (omega arith))
+  | inl h ↦ words_from-space (length bytes) column b bytes h
+      ∙ words_of-spaces (column + 1) bytes
+      ∙ rw (spaces-more b bytes h) (ap (λ (c : ℕ). words_of c (drop (spaces bytes) bytes)) (omega arith))
   | inr h ↦ rw (spaces-none b bytes h, add-zero) refl
-  ]
+]
 
 -- behind the spaces stands no further one
 pub spaces-end : (bytes : List ℕ) (b : ℕ) (rest : List ℕ) → drop (spaces bytes) bytes ≡ b ∷ rest → (b == 32) ≡ false
 spaces-end [] b rest e = cc
 spaces-end (a ∷ bytes) b rest e = elim (cases_Bool (a == 32)) [
-    inl h ↦ spaces-end bytes b rest (rw (spaces-more a bytes h) at e)
+  | inl h ↦ spaces-end bytes b rest (rw (spaces-more a bytes h) at e)
   | inr h ↦ let same : a ∷ bytes ≡ b ∷ rest = rw (spaces-none a bytes h) at e in
-        let first : a ≡ b = cc in rw (← first) h
-  ]
+      let first : a ≡ b = cc in rw (← first) h
+]
 
 -- the first word of bytes that begin with none
 words_of-begun : (column : ℕ) (bytes : List ℕ) → 1 ≤ length bytes → ((b : ℕ) (rest : List ℕ) → bytes ≡ b ∷ rest → (b == 32) ≡ false) →
@@ -82,7 +82,7 @@ words_of-begun column (b ∷ bytes) l begins =
     let rest : length (drop k (b ∷ bytes)) ≡ length (b ∷ bytes) - k = length-drop k (b ∷ bytes) in
     words_from-word (length bytes) column b bytes h
     ∙ ap (λ (words : List Word). word_at column (take k (b ∷ bytes)) ∷ words)
-        (words_from-enough (length bytes) (length (drop k (b ∷ bytes))) (column + k) (drop k (b ∷ bytes)) (omega arith) (omega arith))
+    (words_from-enough (length bytes) (length (drop k (b ∷ bytes))) (column + k) (drop k (b ∷ bytes)) (omega arith) (omega arith))
 
 pub word_length-begun : (bytes : List ℕ) → 1 ≤ length bytes → ((b : ℕ) (rest : List ℕ) → bytes ≡ b ∷ rest → (b == 32) ≡ false) → 1 ≤ word_length Plain bytes
 word_length-begun [] l begins = absurd (omega arith)
@@ -92,7 +92,7 @@ word_length-begun (b ∷ bytes) l begins = word_length-one b bytes (begins b byt
 pub words_of-first : (column : ℕ) (bytes : List ℕ) → 1 ≤ length (drop (spaces bytes) bytes) →
     words_of column bytes
     ≡ word_at (column + spaces bytes) (take (word_length Plain (drop (spaces bytes) bytes)) (drop (spaces bytes) bytes))
-      ∷ words_of (column + spaces bytes + word_length Plain (drop (spaces bytes) bytes)) (drop (word_length Plain (drop (spaces bytes) bytes)) (drop (spaces bytes) bytes))
+    ∷ words_of (column + spaces bytes + word_length Plain (drop (spaces bytes) bytes)) (drop (word_length Plain (drop (spaces bytes) bytes)) (drop (spaces bytes) bytes))
 words_of-first column bytes l =
     words_of-spaces column bytes ∙ words_of-begun (column + spaces bytes) (drop (spaces bytes) bytes) l (spaces-end bytes)
 

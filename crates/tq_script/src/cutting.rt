@@ -17,7 +17,7 @@ pub struct Word<'a> {
 
 /// Where in a word a byte stands.
 #[derive(Clone, Copy)]
-pub enum Place {
+enum Place {
     /// Outside quotes.
     Plain,
     Quoted,
@@ -85,28 +85,37 @@ impl<'a> Words<'a> {
         ensures rest { result.rest.now ≡ line.now }
         ensures column { result.column ≡ 1 }
     {
-        Words { rest: line, column: 1 }
+        Words {
+            rest: line,
+            column: 1,
+        }
     }
 
     /// The first word and those behind it.
     pub fn split_first(self) -> Option<(Word<'a>, Words<'a>)>
         ensures words { MatchOption result (words_of self.entry.column self.entry.rest.now ≡ [])
             (λ cut. words_of self.entry.column self.entry.rest.now
-                ≡ word_at cut.0.column cut.0.bytes.now ∷ words_of cut.1.column cut.1.rest.now) }
+            ≡ word_at cut.0.column cut.0.bytes.now ∷ words_of cut.1.column cut.1.rest.now) }
         ensures shorter { IfSome result (λ cut. length cut.1.rest.now < length self.entry.rest.now) }
     {
         let words = self.skip(word_start(self.rest)?);
         let length = word_length(words.rest);
-        let word = Word { column: words.column, bytes: &words.rest[..length] };
+        let word = Word {
+            column: words.column,
+            bytes: &words.rest[..length],
+        };
         Some((word, words.skip(length)))
     }
 
-    /// The line without so many bytes more.
+    /// What is left behind so many bytes.
     fn skip(self, count: usize) -> Words<'a>
         requires { count ≤ length self.rest.now }
         ensures rest { result.rest.now ≡ drop count self.entry.rest.now }
         ensures column { result.column ≡ self.entry.column + count }
     {
-        Words { rest: &self.rest[count..], column: self.column + count as u64 }
+        Words {
+            rest: &self.rest[count..],
+            column: self.column + count as u64,
+        }
     }
 }

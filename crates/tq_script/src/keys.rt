@@ -69,7 +69,10 @@ fn keyed_value(rows: &[KeyRow], word: &[u8]) -> Option<Given>
     let equals = position_of(b'=', word)?;
     let row = key_among(rows, &word[..equals])?;
     let value = value_of(row.kind, &word[equals + 1..])?;
-    Some(Given { key: row.key, value })
+    Some(Given {
+        key: row.key,
+        value,
+    })
 }
 
 fn key_among(rows: &[KeyRow], name: &[u8]) -> Option<KeyRow>

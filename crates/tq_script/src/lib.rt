@@ -10,6 +10,8 @@ mod numerals;
 mod reading;
 mod requests;
 mod table;
+#[cfg(test)]
+mod tests;
 mod unread;
 
 pub use lines::first_line;

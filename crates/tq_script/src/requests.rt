@@ -64,7 +64,9 @@ fn request_of(verb: Verb, values: &[Value], given: &[Given]) -> Request
                 site: number_given(Key::Site, given),
             }))
         }
-        (Verb::ListDevice, [Value::Number(dev)]) => Request::Device(DeviceRequest::List(*dev as u8)),
+        (Verb::ListDevice, [Value::Number(dev)]) => Request::Device(DeviceRequest::List(
+            *dev as u8,
+        )),
         _ => Request::Nothing,
     }
 }

@@ -33,9 +33,16 @@ pub fn row_of(verb: Verb) -> Row
     match verb {
         Verb::CreateDevice => Row {
             positional: &[Kind::Device, Kind::Number],
-            keyed: &[KeyRow { key: Key::Site, kind: Kind::Number, required: false }],
+            keyed: &[KeyRow {
+                key: Key::Site,
+                kind: Kind::Number,
+                required: false,
+            }],
         },
-        Verb::ListDevice => Row { positional: &[Kind::Device], keyed: &[] },
+        Verb::ListDevice => Row {
+            positional: &[Kind::Device],
+            keyed: &[],
+        },
     }
 }
 

@@ -15,5 +15,4 @@ pub returns-in-None-clause-lines : goal.returns-in-None-clause-lines
 returns-in-None-clause-lines c =
     let script = c.args.script.now in
     let some : 1 ≤ length script = omega (arith, eqb-false _ _ (sym c.is_empty.ensures ∙ c.if-is_empty.false)) in
-    rw (take_rest script (length script), drop_all (length script) script (omega arith))
-    (script_lines-unended script some (position-none (λ (b : ℕ). b == 10) script c.in-None.ensures))
+    script_lines-unended script some (position-none (λ (b : ℕ). b == 10) script c.in-None.ensures)

@@ -16,5 +16,5 @@ returns-in_err-value c = λ rows.
     let p = err_from_is_err_and c.from_residual.result c.from_residual.ensures.1 in
     let later = c.in_err-value.ensures (drop (at + 1) kinds) rows in
     rw (p.1, p.2) (ReadsAs-behind _ c.loop-kind.values.items _ _ _ _
-        (c.loop-kind.invariant rows ∙ ap (with_read c.loop-kind.values.items []) (at_drop_more (λ (ks : List Kind). scan ks rows words) kinds at _ c.loop-kind-test.true))
-        later)
+    (c.loop-kind.invariant rows ∙ ap (with_read c.loop-kind.values.items []) (at_drop_more (λ (ks : List Kind). scan ks rows words) kinds at _ c.loop-kind-test.true))
+    later)
