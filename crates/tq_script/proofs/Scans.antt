@@ -1,8 +1,7 @@
 -- The steps of a scan, and what was read before it.
-use Rattle.std.proofs.Common.{◌≡◌, ℕ, ◌+◌, ◌<◌, ◌==◌, Bool, true, false, List, [], ◌∷◌, ◌++◌, length, take, drop, map, Option, Some, None, Err, not, refl, ap, inl, inr, sym, ◌∙◌, append_assoc}
+use Rattle.std.proofs.Common.{◌≡◌, ℕ, ◌+◌, ◌==◌, List, [], ◌∷◌, ◌++◌, take, drop, map, Some, None, Err, not, refl, ap, inl, inr, ◌∙◌, append_assoc}
 use Rattle.std.proofs.lemmas.Bool.{cases_Bool}
-use Rattle.std.specs.List.{filter, list_any, position, position_or_len}
-use Rattle.std.specs.Option.{option_map}
+use Rattle.std.specs.List.{filter, list_any, position}
 use Rattle.tq_model.specs.declared.grammar.Key.{Key}
 use Rattle.tq_model.specs.declared.grammar.Kind.{Kind}
 use Rattle.tq_model.specs.declared.grammar.Value.{Value}

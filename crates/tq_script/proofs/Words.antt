@@ -1,5 +1,5 @@
 -- How the words of a line go on behind its spaces and behind its first word.
-use Rattle.std.proofs.Common.{◌≡◌, ℕ, zero, suc, ◌+◌, ◌-◌, ◌<◌, ◌≤◌, ◌==◌, Bool, true, false, not, List, [], ◌∷◌, Some, length, take, drop, get_or, refl, ap, sym, ◌∙◌, ⊎_elim, inl, inr, arith, length-drop, add-one, add-zero}
+use Rattle.std.proofs.Common.{◌≡◌, ℕ, zero, suc, ◌+◌, ◌-◌, ◌<◌, ◌≤◌, ◌==◌, true, false, not, List, [], ◌∷◌, Some, length, take, drop, get_or, refl, ap, sym, ◌∙◌, inl, inr, arith, length-drop, add-zero}
 use Rattle.std.proofs.lemmas.Bool.{cases_Bool}
 use Rattle.std.proofs.lemmas.List.{drop_all, at_drop_more, at_drop_all}
 use Rattle.std.specs.List.{position, position_or_len}

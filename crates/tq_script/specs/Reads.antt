@@ -1,5 +1,5 @@
 -- What is read of the words behind a verb.
-use Rattle.std.specs.Prelude.{◌≡◌, ℕ, List, ◌++◌, Result, Ok, Err}
+use Rattle.std.specs.Prelude.{◌≡◌, List, ◌++◌, Result, Ok, Err}
 use Rattle.tq_model.specs.declared.grammar.Value.{Value}
 use Rattle.tq_model.specs.Grammar as grammar
 use Rattle.tq_model.specs.Grammar.{Scan, Misfit, Missing, Spelt}

@@ -1,4 +1,4 @@
-use Rattle.std.proofs.Common.{◌≡◌, map}
+use Rattle.std.proofs.Common.{map}
 use Rattle.std.proofs.lemmas.List.{take_rest}
 use Rattle.tq_script.specs.Rows.{key_row_of}
 use Rattle.tq_script.proofs.Scans.{keyed_value-some}

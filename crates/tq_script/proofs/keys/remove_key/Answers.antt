@@ -1,4 +1,4 @@
-use Rattle.std.proofs.Common.{◌≡◌, not, map, ap, ◌∙◌, rules, tests}
+use Rattle.std.proofs.Common.{not, map, ap, ◌∙◌, rules, tests}
 use Rattle.std.proofs.lemmas.Fn.{filter_same}
 use Rattle.tq_model.specs.Grammar.{is_same_key}
 use Rattle.tq_script.proofs.Scans.{rows_without-filter}

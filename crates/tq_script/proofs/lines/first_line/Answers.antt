@@ -1,6 +1,6 @@
-use Rattle.std.proofs.Common.{◌≡◌, ℕ, ◌+◌, ◌<◌, ◌≤◌, ◌==◌, sym, ◌∙◌, arith, add-one, length, drop}
+use Rattle.std.proofs.Common.{ℕ, ◌+◌, ◌≤◌, ◌==◌, sym, ◌∙◌, arith, add-one, length}
 use Rattle.std.proofs.lemmas.Bool.{eqb-false}
-use Rattle.std.proofs.lemmas.List.{take_rest, drop_all}
+use Rattle.std.proofs.lemmas.List.{take_rest}
 use Rattle.tq_script.proofs.Positions.{position-some, position-none}
 use Rattle.tq_script.proofs.LineEnds.{script_lines-ended, script_lines-unended}
 use Rattle.tq_script.proofs.lines.first_line.Goals as goal

@@ -1,4 +1,3 @@
-use Rattle.std.proofs.Common.{◌≡◌}
 use Rattle.tq_script.proofs.Spelt.{AreOfKinds-scan}
 use Rattle.tq_script.proofs.requests.verb_request.Goals as goal
 

@@ -1,4 +1,4 @@
-use Rattle.std.proofs.Common.{ℕ, ◌+◌, ◌==◌, not, length, drop, length-drop, arith}
+use Rattle.std.proofs.Common.{ℕ, ◌==◌, not}
 use Rattle.tq_script.proofs.Positions.{position-none}
 use Rattle.tq_script.proofs.Words.{words_of-none, words_of-split, words_of-shorter}
 use Rattle.tq_script.proofs.cutting.Words.split_first.Goals as goal
