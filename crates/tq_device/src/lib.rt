@@ -1,0 +1,12 @@
+//! Device 0 without spaces: its creation, its reading, and its epoch.
+#![tactic(auto)]
+
+mod content;
+mod creating;
+mod loading;
+mod raising;
+
+pub use content::{DeviceContent, Found};
+pub use creating::create;
+pub use loading::load;
+pub use raising::raise_epoch;
