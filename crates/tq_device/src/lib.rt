@@ -1,8 +1,11 @@
 //! Device 0 without spaces: its creation, its reading, and its epoch.
 #![tactic(auto)]
 
+mod bytes;
 mod content;
 mod creating;
+mod judging;
+mod layout;
 mod loading;
 mod raising;
 
