@@ -29,18 +29,19 @@ same_runs i k n xs ys fits_x fits_y same =
     let below : j < n = omega (arith, lt, long_x) in
     get_or-run_at i n xs j 0 below ∙ same j below ∙ sym (get_or-run_at k n ys j 0 below))
 
--- what stands at an address is read there
-pub run_from : (at i n p : ℕ) (bytes image : List ℕ) → p ≡ at + i → StandsAt at bytes image → at + length bytes ≤ length image → i + n ≤ length bytes → run_at p n image ≡ run_at i n bytes
-run_from at i n p bytes image place stands within fits =
-    same_runs p i n image bytes (omega arith) fits (λ j lt.
-    let here : p + j ≡ at + (i + j) = omega arith in
-    ap (λ k. get_or image k 0) here ∙ stands (i + j) (omega arith))
+pub same_numbers : (i k n : ℕ) (xs ys : List ℕ) → i + n ≤ length xs → k + n ≤ length ys → ((j : ℕ) → j < n → get_or xs (i + j) 0 ≡ get_or ys (k + j) 0) → number_at i n xs ≡ number_at k n ys
+same_numbers i k n xs ys fits_x fits_y same = ap number_of (same_runs i k n xs ys fits_x fits_y same)
 
-pub number_from : (at i n p : ℕ) (bytes image : List ℕ) → p ≡ at + i → StandsAt at bytes image → at + length bytes ≤ length image → i + n ≤ length bytes → number_at p n image ≡ number_at i n bytes
-number_from at i n p bytes image place stands within fits = ap number_of (run_from at i n p bytes image place stands within fits)
+-- n bytes of two images are the same, each from its own address on
+abbrev pub AreSame : ℕ → ℕ → ℕ → List ℕ → List ℕ → Type 0
+AreSame n p q a b = (i : ℕ) → i < n → get_or a (p + i) 0 ≡ get_or b (q + i) 0
 
-pub byte_from : (at i p : ℕ) (bytes image : List ℕ) → p ≡ at + i → StandsAt at bytes image → i < length bytes → get_or image p 0 ≡ get_or bytes i 0
-byte_from at i p bytes image place stands fits = ap (λ k. get_or image k 0) place ∙ stands i fits
+-- some of these bytes
+part : (n p q x y i m : ℕ) (a b : List ℕ) → AreSame n p q a b → x ≡ p + i → y ≡ q + i → i + m ≤ n → (j : ℕ) → j < m → get_or a (x + j) 0 ≡ get_or b (y + j) 0
+part n p q x y i m a b same at_x at_y fits j lt =
+    let left : x + j ≡ p + (i + j) = omega arith in
+    let right : q + (i + j) ≡ y + j = omega arith in
+    ap (λ o. get_or a o 0) left ∙ same (i + j) (omega arith) ∙ ap (λ o. get_or b o 0) right
 
 pub same_below : (f g : ℕ → ℕ) (n : ℕ) → ((k : ℕ) → k < n → f k ≡ g k) → map f (below n) ≡ map g (below n)
 same_below f g zero each = refl
@@ -170,47 +171,68 @@ short_is_blank image short =
     let blank : nat_lt (length image) 131072 ≡ true = grind (arith, nat_tests) in
     ap (λ (b : Bool). if b then Blank else (if is_whole 0 image then Holds (content_of image) else Damaged)) blank
 
--- Parts that were read
+-- Parts with the same bytes
 
-pub header_from : (bytes image : List ℕ) → length bytes ≡ 1024 → 131072 ≤ length image → StandsAt 0 bytes image → raw_header image ≡ raw_header bytes
-header_from bytes image size long stands =
-    let mark : run_at 0 8 image ≡ run_at 0 8 bytes = run_from 0 0 8 0 bytes image refl stands (omega arith) (omega arith) in
-    let device : get_or image 8 0 ≡ get_or bytes 8 0 = stands 8 (omega arith) in
-    let site : number_at 12 4 image ≡ number_at 12 4 bytes = number_from 0 12 4 12 bytes image refl stands (omega arith) (omega arith) in
-    let clusters : number_at 16 4 image ≡ number_at 16 4 bytes = number_from 0 16 4 16 bytes image refl stands (omega arith) (omega arith) in
-    let table : chosen (get_or image 512 0) table_a table_b ≡ chosen (get_or bytes 512 0) table_a table_b = ap (λ s. chosen s table_a table_b) (stands 512 (omega arith)) in
-    let journal : chosen (get_or image 513 0) journal_a journal_b ≡ chosen (get_or bytes 513 0) journal_a journal_b = ap (λ s. chosen s journal_a journal_b) (stands 513 (omega arith)) in
+pub header_same : (a b : List ℕ) → 1024 ≤ length a → 1024 ≤ length b → ((i : ℕ) → i < 513 → get_or a i 0 ≡ get_or b i 0) → raw_header a ≡ record (raw_header b) { journal = (raw_header a).journal }
+header_same a b long_a long_b same =
+    let mark : run_at 0 8 a ≡ run_at 0 8 b = same_runs 0 0 8 a b (omega arith) (omega arith) (λ j lt. part 513 0 0 0 0 0 8 a b (λ i below. zero_in i below) refl refl (omega arith) j lt) in
+    let device : get_or a 8 0 ≡ get_or b 8 0 = same 8 (omega arith) in
+    let site : number_at 12 4 a ≡ number_at 12 4 b = same_numbers 12 12 4 a b (omega arith) (omega arith) (λ j lt. same (12 + j) (omega arith)) in
+    let clusters : number_at 16 4 a ≡ number_at 16 4 b = same_numbers 16 16 4 a b (omega arith) (omega arith) (λ j lt. same (16 + j) (omega arith)) in
+    let table : chosen (get_or a 512 0) table_a table_b ≡ chosen (get_or b 512 0) table_a table_b = ap (λ s. chosen s table_a table_b) (same 512 (omega arith)) in
+    let j = (raw_header a).journal in
+    ap (λ (m : List ℕ). record { mark = m; device = get_or a 8 0; site = number_at 12 4 a; clusters = number_at 16 4 a; table = (raw_header a).table; journal = j }) mark
+    ∙ ap (λ (d : ℕ). record { mark = run_at 0 8 b; device = d; site = number_at 12 4 a; clusters = number_at 16 4 a; table = (raw_header a).table; journal = j }) device
+    ∙ ap (λ (s : ℕ). record { mark = run_at 0 8 b; device = get_or b 8 0; site = s; clusters = number_at 16 4 a; table = (raw_header a).table; journal = j }) site
+    ∙ ap (λ (c : ℕ). record { mark = run_at 0 8 b; device = get_or b 8 0; site = number_at 12 4 b; clusters = c; table = (raw_header a).table; journal = j }) clusters
+    ∙ ap (λ (t : ℕ). record { mark = run_at 0 8 b; device = get_or b 8 0; site = number_at 12 4 b; clusters = number_at 16 4 b; table = t; journal = j }) table
+  where
+    zero_in : (i : ℕ) → i < 513 → get_or a (0 + i) 0 ≡ get_or b (0 + i) 0
+    zero_in i below = let e : 0 + i ≡ i = omega arith in ap (λ o. get_or a o 0) e ∙ same i below ∙ sym (ap (λ o. get_or b o 0) e)
+
+-- the same where the selector of the journal is the same too
+pub whole_header_same : (a b : List ℕ) → 1024 ≤ length a → 1024 ≤ length b → ((i : ℕ) → i < 514 → get_or a i 0 ≡ get_or b i 0) → raw_header a ≡ raw_header b
+whole_header_same a b long_a long_b same =
+    header_same a b long_a long_b (λ i lt. same i (omega arith)) ∙ ap (λ (n : ℕ). record (raw_header b) { journal = chosen n journal_a journal_b }) (same 513 (omega arith))
+
+pub table_same : (p q : ℕ) (a b : List ℕ) → p + 2592 ≤ length a → q + 2592 ≤ length b → AreSame 2592 p q a b → raw_table p a ≡ raw_table q b
+table_same p q a b long_a long_b same =
+    let mark : run_at p 4 a ≡ run_at q 4 b = same_runs p q 4 a b (omega arith) (omega arith) (part 2592 p q p q 0 4 a b same (omega arith) (omega arith) (omega arith)) in
+    let next : number_at (p + 4) 4 a ≡ number_at (q + 4) 4 b = same_numbers (p + 4) (q + 4) 4 a b (omega arith) (omega arith) (part 2592 p q (p + 4) (q + 4) 4 4 a b same refl refl (omega arith)) in
+    let used : (raw_table p a).used ≡ (raw_table q b).used = same_below (λ entry. get_or a (p + 32 + 160 * entry) 0) (λ entry. get_or b (q + 32 + 160 * entry) 0) 16 (λ k lt.
+    let left : p + 32 + 160 * k ≡ p + (32 + 160 * k) = omega arith in
+    let right : q + (32 + 160 * k) ≡ q + 32 + 160 * k = omega arith in
+    ap (λ o. get_or a o 0) left ∙ same (32 + 160 * k) (omega arith) ∙ ap (λ o. get_or b o 0) right) in
+    ap (λ (m : List ℕ). record { mark = m; next = number_at (p + 4) 4 a; used = (raw_table p a).used }) mark
+    ∙ ap (λ (n : ℕ). record { mark = run_at q 4 b; next = n; used = (raw_table p a).used }) next
+    ∙ ap (λ (u : List ℕ). record { mark = run_at q 4 b; next = number_at (q + 4) 4 b; used = u }) used
+
+pub journal_same : (p q : ℕ) (a b : List ℕ) → p + 1025 ≤ length a → q + 1025 ≤ length b → AreSame 1025 p q a b → raw_journal p a ≡ raw_journal q b
+journal_same p q a b long_a long_b same =
+    let mark : run_at p 4 a ≡ run_at q 4 b = same_runs p q 4 a b (omega arith) (omega arith) (part 1025 p q p q 0 4 a b same (omega arith) (omega arith) (omega arith)) in
+    let epoch : number_at (p + 4) 4 a ≡ number_at (q + 4) 4 b = same_numbers (p + 4) (q + 4) 4 a b (omega arith) (omega arith) (part 1025 p q (p + 4) (q + 4) 4 4 a b same refl refl (omega arith)) in
+    let decided : get_or a (p + 8) 0 ≡ get_or b (q + 8) 0 = same 8 (omega arith) in
+    let decision_epoch : number_at (p + 12) 4 a ≡ number_at (q + 12) 4 b = same_numbers (p + 12) (q + 12) 4 a b (omega arith) (omega arith) (part 1025 p q (p + 12) (q + 12) 12 4 a b same refl refl (omega arith)) in
+    let gate : get_or a (p + 1024) 0 ≡ get_or b (q + 1024) 0 = same 1024 (omega arith) in
     cc
 
-pub table_from : (at : ℕ) (bytes image : List ℕ) → length bytes ≡ 2592 → at + 2592 ≤ length image → StandsAt at bytes image → raw_table at image ≡ raw_table 0 bytes
-table_from at bytes image size long stands =
-    let mark : run_at at 4 image ≡ run_at 0 4 bytes = run_from at 0 4 at bytes image (omega arith) stands (omega arith) (omega arith) in
-    let next : number_at (at + 4) 4 image ≡ number_at 4 4 bytes = number_from at 4 4 (at + 4) bytes image refl stands (omega arith) (omega arith) in
-    let used : (raw_table at image).used ≡ (raw_table 0 bytes).used = same_below (λ entry. get_or image (at + 32 + 160 * entry) 0) (λ entry. get_or bytes (0 + 32 + 160 * entry) 0) 16 (λ k lt.
-    byte_from at (0 + 32 + 160 * k) (at + 32 + 160 * k) bytes image (omega arith) stands (omega arith)) in
-    ap (λ (m : List ℕ). record { mark = m; next = number_at (at + 4) 4 image; used = (raw_table at image).used }) mark
-    ∙ ap (λ (n : ℕ). record { mark = run_at 0 4 bytes; next = n; used = (raw_table at image).used }) next
-    ∙ ap (λ (u : List ℕ). record { mark = run_at 0 4 bytes; next = number_at 4 4 bytes; used = u }) used
-
-pub journal_from : (at : ℕ) (bytes image : List ℕ) → length bytes ≡ 1025 → at + 1025 ≤ length image → StandsAt at bytes image → raw_journal at image ≡ raw_journal 0 bytes
-journal_from at bytes image size long stands =
-    let mark : run_at at 4 image ≡ run_at 0 4 bytes = run_from at 0 4 at bytes image (omega arith) stands (omega arith) (omega arith) in
-    let epoch : number_at (at + 4) 4 image ≡ number_at 4 4 bytes = number_from at 4 4 (at + 4) bytes image refl stands (omega arith) (omega arith) in
-    let decided : get_or image (at + 8) 0 ≡ get_or bytes 8 0 = stands 8 (omega arith) in
-    let decision_epoch : number_at (at + 12) 4 image ≡ number_at 12 4 bytes = number_from at 12 4 (at + 12) bytes image refl stands (omega arith) (omega arith) in
-    let gate : get_or image (at + 1024) 0 ≡ get_or bytes 1024 0 = stands 1024 (omega arith) in
-    cc
+-- bytes that stand at an address
+stand : (n at : ℕ) (bytes image : List ℕ) → length bytes ≡ n → StandsAt at bytes image → AreSame n at 0 image bytes
+stand n at bytes image size stands i lt = stands i (omega arith) ∙ (let e : i ≡ 0 + i = omega arith in ap (λ o. get_or bytes o 0) e)
 
 -- what the three parts say that were read is what the image says
 pub reading_from : (header table journal image : List ℕ) → length header ≡ 1024 → length table ≡ 2592 → length journal ≡ 1025 → 131072 ≤ length image
     → StandsAt 0 header image → StandsAt (raw_header header).table table image → StandsAt (raw_header header).journal journal image
     → reading 0 image ≡ reading_in (raw_header header) (raw_table 0 table) (raw_journal 0 journal)
 reading_from header table journal image size_h size_t size_j long stands_h stands_t stands_j =
-    let h : raw_header image ≡ raw_header header = header_from header image size_h long stands_h in
+    let h : raw_header image ≡ raw_header header = whole_header_same image header (omega arith) (omega arith) (λ i lt.
+    let e : i ≡ 0 + i = omega arith in ap (λ o. get_or image o 0) e ∙ stands_h i (omega arith)) in
     let end_t = chosen_most (get_or header 512 0) table_a table_b (omega arith) in
     let end_j = chosen_most (get_or header 513 0) journal_a journal_b (omega arith) in
-    let t = table_from (raw_header header).table table image size_t (omega (arith, end_t)) stands_t in
-    let j = journal_from (raw_header header).journal journal image size_j (omega (arith, end_j)) stands_j in
+    let t : raw_table (raw_header header).table image ≡ raw_table 0 table =
+    table_same (raw_header header).table 0 image table (omega (arith, end_t)) (omega arith) (stand 2592 (raw_header header).table table image size_t stands_t) in
+    let j : raw_journal (raw_header header).journal image ≡ raw_journal 0 journal =
+    journal_same (raw_header header).journal 0 image journal (omega (arith, end_j)) (omega arith) (stand 1025 (raw_header header).journal journal image size_j stands_j) in
     reading_is image long
     ∙ ap (λ (x : RawHeader). reading_in x (raw_table x.table image) (raw_journal x.journal image)) h
     ∙ ap (λ (x : RawTable). reading_in (raw_header header) x (raw_journal (raw_header header).journal image)) t
