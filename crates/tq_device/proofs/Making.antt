@@ -20,6 +20,11 @@ pub at_ok : {T E : Type 0} (r : Result T E) {P : Type 0} → P → OnOk r P
 at_ok (Ok x) p = p
 at_ok (Err e) p = tt
 
+-- more follows at Ok
+pub on_ok : {T E : Type 0} (r : Result T E) {P Q : Type 0} → OnOk r P → (P → Q) → OnOk r Q
+on_ok (Ok x) p to = to p
+on_ok (Err e) p to = tt
+
 pub any_steps : IsSteps IsAnyStep
 any_steps = record { none = λ c. tt; both = λ a b c first second. tt }
 

@@ -142,23 +142,26 @@ filled_same d a b stands size outside =
       },
     )
 
-pub filled_torn : (d : DeviceContent) (a b : List ℕ) → Stands d a → IsTorn (other d.journal journal_a journal_b) 1025 a b → Stands d b × IsSameButJournal a b
-filled_torn d a b stands torn =
+pub filled_torn : (d : DeviceContent) (at n : ℕ) (a b : List ℕ) → at ≡ other d.journal journal_a journal_b → n ≡ 1025 → Stands d a → IsTorn at n a b → IsSameButJournal a b × Stands d b
+filled_torn d at n a b place all stands torn =
     let most = other_most d.journal in
     let long = holds_long a (content_view d) stands.reading in
-    filled_same d a b stands (omega (arith, long, most, torn.no_shorter, torn.no_longer)) torn.outside
+    let both = filled_same d a b stands (omega (arith, long, most, place, all, torn.no_shorter, torn.no_longer))
+    (λ i apart. torn.outside i (⊎_elim (λ below. inl (omega (arith, below, place))) (λ above. inr (omega (arith, above, place, all))) apart)) in
+    (both.1, both.0)
 
-pub filled_written : (d : DeviceContent) (start base a b : List ℕ) → length start ≡ 8 → run_at 0 4 start ≡ codes "TQSJ" → number_at 4 4 start ≡ d.epoch + 1 → length base ≡ 1025 → ((i : ℕ) → get_or base i 0 ≡ get_or start i 0)
-    → Stands d a → IsWritten (other d.journal journal_a journal_b) base a b → IsFilled d b × IsSameButJournal a b
-filled_written d start base a b size_start mark number size_base padded stands written =
+pub filled_written : (d : DeviceContent) (at : ℕ) (start base a b : List ℕ) → at ≡ other d.journal journal_a journal_b → length start ≡ 8 → run_at 0 4 start ≡ codes "TQSJ" → number_at 4 4 start ≡ d.epoch + 1
+    → length base ≡ 1025 → ((i : ℕ) → get_or base i 0 ≡ get_or start i 0) → Stands d a → IsWritten at base a b → IsFilled d b × IsSameButJournal a b
+filled_written d at start base a b place size_start mark number size_base padded stands written =
+    let area = other d.journal journal_a journal_b in
     let most = other_most d.journal in
     let long = holds_long a (content_view d) stands.reading in
-    let size : length b ≡ length a = omega (arith, long, most, written.size) in
-    let both = filled_same d a b stands size (λ i apart. written.outside i (⊎_elim (λ below. inl below) (λ above. inr (omega (arith, above, size_base))) apart)) in
-    let same : AreSame 1025 (other d.journal journal_a journal_b) 0 b start = λ i lt.
+    let size : length b ≡ length a = omega (arith, long, most, place, written.size) in
+    let both = filled_same d a b stands size (λ i apart. written.outside i (⊎_elim (λ below. inl (omega (arith, below, place))) (λ above. inr (omega (arith, above, place, size_base))) apart)) in
+    let same : AreSame 1025 area 0 b start = λ i lt.
     let e : i ≡ 0 + i = omega arith in
-    written.stands i (omega arith) ∙ padded i ∙ ap (λ o. get_or start o 0) e in
-    (record { stands = both.0; base = journal_made (other d.journal journal_a journal_b) (d.epoch + 1) start b size_start mark number (omega (arith, long, size, most)) same }, both.1)
+    ap (λ p. get_or b (p + i) 0) (sym place) ∙ written.stands i (omega arith) ∙ padded i ∙ ap (λ o. get_or start o 0) e in
+    (record { stands = both.0; base = journal_made area (d.epoch + 1) start b size_start mark number (omega (arith, long, size, most)) same }, both.1)
 
 -- Choices
 

@@ -1,10 +1,9 @@
-ghost use Rattle.std.specs.Prelude.{◌≡◌, ◌<◌, ◌≤◌, ◌+◌, List, ℕ, length, IfOk, OnOk};
+ghost use Rattle.std.specs.Prelude.{◌≡◌, ◌<◌, ◌≤◌, List, ℕ, IfOk, OnOk};
 ghost use Rattle.tq_host.specs.View.{IsSettled};
 ghost use Rattle.tq_host.specs.Calls.{HasCause};
 ghost use Rattle.tq_host.specs.Within.{KeepsRest, Within};
-ghost use Rattle.tq_model.specs.Reading.{Holds, reading};
 ghost use Rattle.tq_device.specs.Content.{Stands, IsOldOrRaised, IsSameButJournal, content_view, with_raised_epoch};
-ghost use Rattle.tq_device.specs.Raised.{IsFilled, raised};
+ghost use Rattle.tq_device.specs.Raised.{IsFilled};
 
 use crate::DeviceContent;
 use crate::bytes::{base_start, padded};
@@ -56,8 +55,8 @@ fn choose<H: Host>(host: &mut H, dev: u8, content: &DeviceContent) -> Result<Dev
     requires below { content.now.epoch < 4294967295 }
     requires holds { H.tells.reads → IsFilled content.now ((H.view host.old).reads dev) }
 
-    ensures raised { IfOk result (λ d. d ≡ raised content.now) }
-    ensures done { OnOk result (H.tells.reads → Stands (raised content.now) ((H.view host.new).reads dev)) }
+    ensures raised { IfOk result (λ d. content_view d ≡ with_raised_epoch (content_view content.now)) }
+    ensures done { IfOk result (λ d. H.tells.reads → Stands d ((H.view host.new).reads dev)) }
     ensures kept { OnOk result (H.tells.reads → IsSameButJournal ((H.view host.old).reads dev) ((H.view host.new).reads dev)) }
     ensures settled { OnOk result (IsSettled dev (H.view host.new)) }
     ensures stop { ((c : List ℕ) → (H.view host.old).may_leave dev c → IsFilled content.now c)
