@@ -7,6 +7,9 @@ use Rattle.std.proofs.lemmas.Bool.Decides.{nat_tests}
 use Rattle.tq_field.specs.Digits.{number_of}
 use Rattle.tq_field.specs.Places.{run_at, number_at}
 use Rattle.tq_host.specs.Calls.{IsTorn, IsPulled, IsResized}
+use Rattle.tq_host.specs.View.{Told, View, IsLawful, IsSettled}
+use Rattle.tq_host.specs.Within.{Within}
+use Rattle.tq_host.proofs.Within.{weaker}
 use Rattle.tq_host.proofs.Steps.{IsSteps}
 use Rattle.tq_host.proofs.Bytes.{before_or_after}
 use Rattle.tq_model.specs.Reading.{RawHeader, RawTable, RawJournal, raw_header, raw_table, raw_journal, chosen, table_a, table_b, journal_a, journal_b, below, Content, Reading, Blank, Holds, Damaged, reading}
@@ -198,3 +201,12 @@ pulled_open site clusters b c one five most laid pulled = elim (before_or_after 
 
 pub laid_is_blank : (site clusters : ℕ) (c : List ℕ) → IsLaidOut site clusters c → IsBlankOrNew site clusters c
 laid_is_blank site clusters c laid = inl (short_is_blank c (omega (arith, laid.size)))
+
+-- The pieces in a row
+
+pub short_so_far : (dev site clusters : ℕ) (start now : View) → Within dev IsAnyStep IsShort start now → Within dev IsAnyStep (IsBlankOrNew site clusters) start now
+short_so_far dev site clusters start now short = weaker dev IsAnyStep any_steps IsShort (IsBlankOrNew site clusters) start now (λ a b may is. inl (short_is_blank b is)) short
+
+-- what is read where nothing is pending is what each image has
+pub settled_has : {tells : Told} (P : List ℕ → Type 0) (dev : ℕ) (v : View) → IsLawful tells v → IsSettled dev v → (tells.reads → P (v.reads dev)) → (c : List ℕ) → v.may_leave dev c → P c
+settled_has P dev v lawful settled has c may = subst P (sym (settled c may)) (has (lawful.reads_told (lawful.stops_told dev c may)))
