@@ -13,7 +13,12 @@ use tq_host::{Failed, Host};
 
 /// Makes a blank device one of this site with this many clusters, its epoch 1. A stop inside
 /// leaves it blank or made.
-pub fn create<H: Host>(host: &mut H, dev: u8, site: u32, clusters: u32) -> Result<DeviceContent, Failed>
+pub fn create<H: Host>(
+    host: &mut H,
+    dev: u8,
+    site: u32,
+    clusters: u32,
+) -> Result<DeviceContent, Failed>
     requires dev { dev < 8 }
     requires site { 1 ≤ site }
     requires least { 5 ≤ clusters }
@@ -31,7 +36,13 @@ pub fn create<H: Host>(host: &mut H, dev: u8, site: u32, clusters: u32) -> Resul
     shorten(host, dev)?;
     lay_out(host, dev, site, clusters)?;
     open(host, dev)?;
-    Ok(DeviceContent { site, clusters, next_space: 1, epoch: 1, journal: 0 })
+    Ok(DeviceContent {
+        site,
+        clusters,
+        next_space: 1,
+        epoch: 1,
+        journal: 0,
+    })
 }
 
 /// Makes the device one byte shorter than one that is not blank.
@@ -88,7 +99,12 @@ fn write_pages<H: Host>(
     ensures cause { HasCause (H.view host.old).faults (H.view host.new).faults result }
 {
     for number in 0..128u64 {
-        write_page(host, dev, number, page_start(number, header, table, journal))?;
+        write_page(
+            host,
+            dev,
+            number,
+            page_start(number, header, table, journal),
+        )?;
     }
     Ok(())
 }

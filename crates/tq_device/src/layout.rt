@@ -5,8 +5,11 @@ ghost use Rattle.tq_model.specs.Reading as reading;
 pub(crate) const HEADER_BYTES: u64 = 131_072;
 
 pub(crate) const TABLE_A: u64 = 1024;
+
 pub(crate) const TABLE_B: u64 = 41_984;
+
 pub(crate) const JOURNAL_A: u64 = 82_944;
+
 pub(crate) const JOURNAL_B: u64 = 99_328;
 
 /// The byte of an open gate.

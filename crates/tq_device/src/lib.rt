@@ -8,6 +8,8 @@ mod judging;
 mod layout;
 mod loading;
 mod raising;
+#[cfg(test)]
+mod tests;
 
 pub use content::{DeviceContent, Found};
 pub use creating::create;

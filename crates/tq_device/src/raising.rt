@@ -12,7 +12,11 @@ use tq_host::{Failed, Host};
 
 /// Raises the epoch of a device that holds this content. A stop inside leaves the old epoch or
 /// the next one.
-pub fn raise_epoch<H: Host>(host: &mut H, dev: u8, content: &DeviceContent) -> Result<DeviceContent, Failed>
+pub fn raise_epoch<H: Host>(
+    host: &mut H,
+    dev: u8,
+    content: &DeviceContent,
+) -> Result<DeviceContent, Failed>
     requires dev { dev < 8 }
     requires below { content.now.epoch < 4294967295 }
     requires holds { H.tells.reads → Stands content.now ((H.view host.old).reads dev) }
@@ -67,5 +71,9 @@ fn choose<H: Host>(host: &mut H, dev: u8, content: &DeviceContent) -> Result<Dev
     let journal = 1 - content.journal % 2;
     host.write_at(dev, 513, &[journal])?;
     host.sync(dev)?;
-    Ok(DeviceContent { epoch: content.epoch + 1, journal, ..*content })
+    Ok(DeviceContent {
+        epoch: content.epoch + 1,
+        journal,
+        ..*content
+    })
 }
