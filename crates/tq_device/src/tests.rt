@@ -58,13 +58,20 @@ fn a_device_is_made_and_loaded(rt: HostRuntime) -> Result<(), Fail> {
 fn an_epoch_is_raised_twice(rt: HostRuntime) -> Result<(), Fail> {
     let alloc = rt.alloc();
     let mut host = MemHost::new(alloc, b"".as_slice(), 1)?;
-    host.set_device(0, &made(alloc)?)?;
-    for _ in 0..2 {
-        if let Ok(Found::Holds(content)) = load(&mut host, 0) {
-            if content.epoch < u32::MAX {
-                assert!(rt; raise_epoch(&mut host, 0, &content).is_ok());
-            }
-        }
+    if let Ok(first) = create(&mut host, 0, 7, 64)
+        && first.epoch < 9
+        && let Ok(second) = raise_epoch(&mut host, 0, &first)
+        && second.epoch < 9
+    {
+        assert!(rt;
+            second
+                == DeviceContent {
+                    epoch: 2,
+                    journal: 1,
+                    ..MADE
+                }
+        );
+        assert!(rt; raise_epoch(&mut host, 0, &second).is_ok());
     }
     let raised = DeviceContent { epoch: 3, ..MADE };
     assert!(rt; load(&mut host, 0) == Ok(Found::Holds(raised)));
