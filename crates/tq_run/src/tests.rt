@@ -248,6 +248,149 @@ fn each_failing_call_has_its_status(rt: HostRuntime) -> Result<(), Fail> {
     Ok(())
 }
 
+// The status where the call with this number fails, in a run that creates and lists a blank device.
+fn status_at(call: u64) -> Status {
+    match call {
+        // line 0, and the answers of lines 1 and 2
+        3 | 139 | 140 => Status::WriteFault,
+        // the script, and its end
+        4 | 5 => Status::ReadFault,
+        _ if call > 140 => Status::Done,
+        _ => Status::DeviceFault,
+    }
+}
+
+#[test]
+fn each_call_that_fails_has_its_status(rt: HostRuntime) -> Result<(), Fail> {
+    let alloc = rt.alloc();
+    let words = run_words(alloc)?;
+    // the writes 12 to 129 are turns of one loop
+    for call in (0..12u64).chain(129..143) {
+        let mut host = outside(alloc, b"".as_slice(), b"crdl 0 64\nlidl 0\n".as_slice(), 64)?;
+        host.fail_at(call)?;
+        assert!(rt; run(alloc, &words, &mut host) == status_at(call), "at {call}");
+        // nothing is given where line 0 fails
+        assert!(rt; call > 3 || host.output().is_empty());
+    }
+    let image = made(alloc)?;
+    // attach, sync, length, three reads, two writes, sync, the selector, sync, line 0, the script's end
+    for (call, status) in [
+        (1u64, Status::DeviceFault),
+        (3, Status::DeviceFault),
+        (7, Status::DeviceFault),
+        (9, Status::DeviceFault),
+        (10, Status::DeviceFault),
+        (11, Status::WriteFault),
+        (12, Status::ReadFault),
+        (13, Status::Done),
+    ] {
+        let mut host = outside(alloc, image.as_slice(), b"".as_slice(), 64)?;
+        host.fail_at(call)?;
+        assert!(rt; run(alloc, &words, &mut host) == status, "at {call}");
+    }
+    Ok(())
+}
+
+const LINES: &[u8] = b"lidl 0
+ lidl  0 
+\tlidl 0
+lidl
+lidl 
+lidl x
+lidl 8
+lidl 7
+lidl 00000000000000000000
+lidl 000000000000000000000
+lidl 0 1
+lidl 0 site=1
+Lidl 0
+lidl \"0\"
+crdl
+crdl 0
+crdl 0 
+crdl 0 4
+crdl 0 8193
+crdl 0 18446744073709551615
+crdl 0 18446744073709551616
+crdl 0 64 site
+crdl 0 64 site=
+crdl 0 64 site=0
+crdl 0 64 site=4294967296
+crdl 0 64 site=1 site=1
+crdl 0 64 size=1 site=x
+crdl 0 64 site=x size=1
+crdl 0 64 \xff
+crdl 0 site=1 64
+crdl 0 64 site=\"1 2
+crdl 0 64 site=\"1\\\" 2
+#
+  # lidl
+\"#\"
+\0
+crdl 9 4
+crdl 1 4
+boot
+lidl 0#
+crdl 0 00064  site=0007
+lidl 0";
+
+const LINES_OUTPUT: &[u8] = b"0 READY site=- epoch=- spaces=0 indoubt=0
+1 NOTCREATED
+2 NOTCREATED
+3 SYNTAX column=1
+4 SYNTAX column=5
+5 SYNTAX column=6
+6 SYNTAX column=6
+7 SYNTAX column=6
+8 NODEVICE
+9 NOTCREATED
+10 SYNTAX column=6
+11 SYNTAX column=8
+12 SYNTAX column=8
+13 SYNTAX column=1
+14 SYNTAX column=6
+15 SYNTAX column=5
+16 SYNTAX column=7
+17 SYNTAX column=8
+18 RANGE field=clusters
+19 RANGE field=clusters
+20 RANGE field=clusters
+21 SYNTAX column=8
+22 SYNTAX column=11
+23 SYNTAX column=11
+24 RANGE field=site
+25 RANGE field=site
+26 SYNTAX column=18
+27 SYNTAX column=11
+28 SYNTAX column=11
+29 SYNTAX column=11
+30 SYNTAX column=8
+31 SYNTAX column=11
+32 SYNTAX column=11
+33 OK
+34 OK
+35 SYNTAX column=1
+36 SYNTAX column=1
+37 SYNTAX column=6
+38 NODEVICE
+39 SYNTAX column=1
+40 SYNTAX column=6
+41 OK clusters=64 free=60
+42 OK clusters=64 free=60 spaces=0
+";
+
+#[test]
+fn lines_have_their_answers_in_any_pieces(rt: HostRuntime) -> Result<(), Fail> {
+    let alloc = rt.alloc();
+    let words = run_words(alloc)?;
+    for piece in [1usize, 7] {
+        let mut host = outside(alloc, b"".as_slice(), LINES, piece)?;
+        assert!(rt; run(alloc, &words, &mut host) == Status::Done);
+        assert!(rt; host.output() == LINES_OUTPUT);
+    }
+    Ok(())
+}
+
 #[test]
 fn too_much_input_is_not_read(rt: HostRuntime) -> Result<(), Fail> {
     let alloc = rt.alloc();
