@@ -1,22 +1,22 @@
 -- What the pieces of a creation leave.
-use Rattle.std.proofs.Common.{◌≡◌, ◌⊎◌, inl, inr, ⊎_elim, ◌<◌, ◌≤◌, ℕ, zero, suc, ◌+◌, ◌-◌, ◌*◌, ◌&&◌, Bool, true, false, List, [], ◌∷◌, length, get_or, refl, sym, ◌∙◌, ap, subst, arith, Result, Ok, Err}
-use Rattle.std.specs.Prelude.{nat_lt, nat_le, ◌==◌, map, min, if◌then◌else◌, codes, OnOk}
+use Rattle.std.proofs.Common.{◌≡◌, inl, inr, ◌<◌, ◌≤◌, ℕ, zero, suc, ◌+◌, ◌-◌, ◌*◌, ◌&&◌, Bool, true, false, List, [], ◌∷◌, length, get_or, refl, sym, ◌∙◌, ap, subst, arith, Result, Ok, Err}
+use Rattle.std.specs.Prelude.{nat_lt, nat_le, map, min, if◌then◌else◌, codes, OnOk}
 use Rattle.std.proofs.lemmas.List.{get_or_past}
 use Rattle.std.proofs.lemmas.Bool.{le-leb}
 use Rattle.std.proofs.lemmas.Bool.Decides.{nat_tests}
 use Rattle.tq_field.specs.Digits.{number_of}
 use Rattle.tq_field.specs.Places.{run_at, number_at}
-use Rattle.tq_host.specs.Calls.{IsTorn, IsPulled, IsResized}
+use Rattle.tq_host.specs.Calls.{IsPulled}
 use Rattle.tq_host.specs.View.{Told, View, IsLawful, IsSettled}
 use Rattle.tq_host.specs.Within.{Within}
 use Rattle.tq_host.proofs.Within.{weaker}
 use Rattle.tq_host.proofs.Steps.{IsSteps}
 use Rattle.tq_host.proofs.Bytes.{before_or_after}
-use Rattle.tq_model.specs.Reading.{RawHeader, RawTable, RawJournal, raw_header, raw_table, raw_journal, chosen, table_a, table_b, journal_a, journal_b, below, Content, Reading, Blank, Holds, Damaged, reading}
+use Rattle.tq_model.specs.Reading.{RawHeader, RawTable, RawJournal, raw_header, raw_table, raw_journal, chosen, table_a, table_b, journal_a, journal_b, below, Content, Blank, Holds, Damaged, reading}
 use Rattle.tq_device.specs.Content.{IsBlankOrNew, IsAnyStep, new_content}
 use Rattle.tq_device.specs.Made.{IsShort, made_byte, IsMadeTo, IsPaged, new_header, new_table, new_journal, IsLaidOut, IsNew}
-use Rattle.tq_device.specs.Parts.{is_header, is_table, is_journal, content_in, reading_in}
-use Rattle.tq_device.proofs.Parts.{both, same_runs, same_numbers, same_below, AreSame, reading_is, short_is_blank, whole_header_same, table_same, journal_same}
+use Rattle.tq_device.specs.Parts.{is_header, reading_in}
+use Rattle.tq_device.proofs.Parts.{both, same_runs, same_numbers, same_below, AreSame, shifted, reading_is, short_is_blank, whole_header_same, table_same, journal_same}
 
 -- where it is so in any case, it is so at Ok
 pub at_ok : {T E : Type 0} (r : Result T E) {P : Type 0} → P → OnOk r P
@@ -46,12 +46,6 @@ zero_at (suc zero) lt = refl
 zero_at (suc (suc zero)) lt = refl
 zero_at (suc (suc (suc zero))) lt = refl
 zero_at (suc (suc (suc (suc j)))) lt = absurd (omega arith)
-
-shifted : (p q x y i n m : ℕ) (a b : List ℕ) → AreSame n p q a b → x ≡ p + i → y ≡ q + i → i + m ≤ n → AreSame m x y a b
-shifted p q x y i n m a b same at_x at_y fits j lt =
-    let left : x + j ≡ p + (i + j) = omega arith in
-    let right : q + (i + j) ≡ y + j = omega arith in
-    ap (λ o. get_or a o 0) left ∙ same (i + j) (omega arith) ∙ ap (λ o. get_or b o 0) right
 
 -- a byte behind a start
 behind : (n p i o : ℕ) (image start : List ℕ) → AreSame n p 0 image start → o ≡ p + i → i < n → length start ≤ i → get_or image o 0 ≡ 0

@@ -1,18 +1,18 @@
 -- What the pieces of raising an epoch leave.
-use Rattle.std.proofs.Common.{◌≡◌, ◌⊎◌, inl, inr, ⊎_elim, ◌<◌, ◌≤◌, ℕ, suc, ◌+◌, ◌-◌, ◌%◌, ◌&&◌, Bool, true, false, List, [], ◌∷◌, length, get_or, refl, sym, ◌∙◌, ap, subst, arith}
+use Rattle.std.proofs.Common.{◌≡◌, ◌⊎◌, inl, inr, ⊎_elim, ◌<◌, ◌≤◌, ℕ, ◌+◌, ◌-◌, ◌%◌, ◌&&◌, Bool, true, false, List, [], ◌∷◌, length, get_or, refl, sym, ◌∙◌, ap, arith}
 use Rattle.std.specs.Prelude.{nat_le, ◌==◌, if◌then◌else◌, codes}
 use Rattle.std.proofs.lemmas.Bool.{le-leb, cases_eq}
 use Rattle.tq_field.specs.Places.{run_at, number_at}
-use Rattle.tq_host.specs.Calls.{StandsAt, IsTorn, IsWritten}
+use Rattle.tq_host.specs.Calls.{IsTorn, IsWritten}
 use Rattle.tq_host.proofs.Steps.{IsSteps}
 use Rattle.tq_host.proofs.Bytes.{before_or_after}
-use Rattle.tq_model.specs.Reading.{RawHeader, RawTable, RawJournal, raw_header, raw_table, raw_journal, chosen, other, table_a, table_b, journal_a, journal_b, Content, Reading, Blank, Holds, Damaged, reading}
+use Rattle.tq_model.specs.Reading.{RawHeader, RawTable, RawJournal, raw_header, raw_table, raw_journal, chosen, other, table_a, table_b, journal_a, journal_b, Content, Blank, Holds, Damaged, reading}
 use Rattle.tq_device.specs.Content.{Stands, content_view, with_raised_epoch, IsOldOrRaised, IsSameButJournal}
 use Rattle.tq_device.specs.Made.{new_journal}
 use Rattle.tq_device.specs.Raised.{IsFilled, raised}
 use Rattle.tq_device.specs.Parts.{is_header, is_table, is_journal, content_in, reading_in}
 use Rattle.tq_device.specs.declared.content.DeviceContent.{DeviceContent}
-use Rattle.tq_device.proofs.Parts.{both, and_left, AreSame, reading_is, short_is_blank, header_same, whole_header_same, table_same, journal_same, chosen_least, chosen_most}
+use Rattle.tq_device.proofs.Parts.{both, and_left, AreSame, reading_is, short_is_blank, header_same, table_same, journal_same, chosen_least, chosen_most}
 use Rattle.tq_device.proofs.Making.{journal_made}
 
 pub journal_steps : IsSteps IsSameButJournal

@@ -1,9 +1,9 @@
 -- From the parts of an image to its reading.
-use Rattle.std.proofs.Common.{◌≡◌, ◌⊎◌, inl, inr, ⊎_elim, ◌<◌, ◌≤◌, ℕ, zero, suc, ◌+◌, ◌*◌, ◌&&◌, Bool, true, false, cond, ltb, leb, eqb, List, [], ◌∷◌, ◌++◌, length, get_or, take, drop, refl, sym, ◌∙◌, ap, subst, arith, ◌%◌}
+use Rattle.std.proofs.Common.{◌≡◌, ◌⊎◌, inl, inr, ⊎_elim, ◌<◌, ◌≤◌, ℕ, zero, suc, ◌+◌, ◌*◌, ◌&&◌, Bool, true, false, List, [], ◌∷◌, ◌++◌, length, get_or, refl, sym, ◌∙◌, ap, arith, ◌%◌}
 use Rattle.std.specs.Prelude.{not, nat_lt, nat_le, ◌==◌, ◌||◌, map, if◌then◌else◌, codes}
 use Rattle.std.proofs.lemmas.List.{map-append}
 use Rattle.std.proofs.lemmas.List.Folds.{list_all-append}
-use Rattle.std.proofs.lemmas.Grind.{common_steps, same_number_lists}
+use Rattle.std.proofs.lemmas.Grind.{same_number_lists}
 use Rattle.std.proofs.lemmas.Bool.Decides.{nat_tests}
 use Rattle.std.specs.List.{list_all}
 use Rattle.std.specs.Str.{bytes_eq}
@@ -11,9 +11,9 @@ use Rattle.tq_field.specs.Places.{run_at, number_at}
 use Rattle.tq_field.specs.Digits.{number_of}
 use Rattle.tq_field.proofs.Runs.{length-run_at, get_or-run_at}
 use Rattle.tq_host.specs.Calls.{StandsAt}
-use Rattle.tq_model.specs.Reading.{RawHeader, RawTable, RawJournal, raw_header, raw_table, raw_journal, chosen, table_a, table_b, journal_a, journal_b, below, Test, header_tests, table_tests, journal_tests, unbuilt_tests, last_space, Content, Reading, Blank, Holds, Damaged, reading, is_whole, content_of}
+use Rattle.tq_model.specs.Reading.{RawHeader, RawTable, RawJournal, raw_header, raw_table, raw_journal, chosen, table_a, table_b, journal_a, journal_b, below, Test, header_tests, table_tests, journal_tests, unbuilt_tests, last_space, Blank, Holds, Damaged, reading, is_whole, content_of}
 use Rattle.tq_model.specs.Site.{least_clusters, most_clusters}
-use Rattle.tq_device.specs.Content.{content_view, Stands, IsFoundOn}
+use Rattle.tq_device.specs.Content.{IsFoundOn}
 use Rattle.tq_device.specs.Parts.{is_header, is_table, is_journal, content_in, reading_in, found_view, HasJournal}
 use Rattle.tq_device.specs.declared.content.Found.{Found}
 use Rattle.tq_device.specs.declared.content.Found.TheVariants as found
@@ -37,8 +37,8 @@ abbrev pub AreSame : ℕ → ℕ → ℕ → List ℕ → List ℕ → Type 0
 AreSame n p q a b = (i : ℕ) → i < n → get_or a (p + i) 0 ≡ get_or b (q + i) 0
 
 -- some of these bytes
-part : (n p q x y i m : ℕ) (a b : List ℕ) → AreSame n p q a b → x ≡ p + i → y ≡ q + i → i + m ≤ n → (j : ℕ) → j < m → get_or a (x + j) 0 ≡ get_or b (y + j) 0
-part n p q x y i m a b same at_x at_y fits j lt =
+pub shifted : (p q x y i n m : ℕ) (a b : List ℕ) → AreSame n p q a b → x ≡ p + i → y ≡ q + i → i + m ≤ n → AreSame m x y a b
+shifted p q x y i n m a b same at_x at_y fits j lt =
     let left : x + j ≡ p + (i + j) = omega arith in
     let right : q + (i + j) ≡ y + j = omega arith in
     ap (λ o. get_or a o 0) left ∙ same (i + j) (omega arith) ∙ ap (λ o. get_or b o 0) right
@@ -175,7 +175,7 @@ short_is_blank image short =
 
 pub header_same : (a b : List ℕ) → 1024 ≤ length a → 1024 ≤ length b → ((i : ℕ) → i < 513 → get_or a i 0 ≡ get_or b i 0) → raw_header a ≡ record (raw_header b) { journal = (raw_header a).journal }
 header_same a b long_a long_b same =
-    let mark : run_at 0 8 a ≡ run_at 0 8 b = same_runs 0 0 8 a b (omega arith) (omega arith) (λ j lt. part 513 0 0 0 0 0 8 a b (λ i below. zero_in i below) refl refl (omega arith) j lt) in
+    let mark : run_at 0 8 a ≡ run_at 0 8 b = same_runs 0 0 8 a b (omega arith) (omega arith) (shifted 0 0 0 0 0 513 8 a b zero_in refl refl (omega arith)) in
     let device : get_or a 8 0 ≡ get_or b 8 0 = same 8 (omega arith) in
     let site : number_at 12 4 a ≡ number_at 12 4 b = same_numbers 12 12 4 a b (omega arith) (omega arith) (λ j lt. same (12 + j) (omega arith)) in
     let clusters : number_at 16 4 a ≡ number_at 16 4 b = same_numbers 16 16 4 a b (omega arith) (omega arith) (λ j lt. same (16 + j) (omega arith)) in
@@ -197,8 +197,8 @@ whole_header_same a b long_a long_b same =
 
 pub table_same : (p q : ℕ) (a b : List ℕ) → p + 2592 ≤ length a → q + 2592 ≤ length b → AreSame 2592 p q a b → raw_table p a ≡ raw_table q b
 table_same p q a b long_a long_b same =
-    let mark : run_at p 4 a ≡ run_at q 4 b = same_runs p q 4 a b (omega arith) (omega arith) (part 2592 p q p q 0 4 a b same (omega arith) (omega arith) (omega arith)) in
-    let next : number_at (p + 4) 4 a ≡ number_at (q + 4) 4 b = same_numbers (p + 4) (q + 4) 4 a b (omega arith) (omega arith) (part 2592 p q (p + 4) (q + 4) 4 4 a b same refl refl (omega arith)) in
+    let mark : run_at p 4 a ≡ run_at q 4 b = same_runs p q 4 a b (omega arith) (omega arith) (shifted p q p q 0 2592 4 a b same (omega arith) (omega arith) (omega arith)) in
+    let next : number_at (p + 4) 4 a ≡ number_at (q + 4) 4 b = same_numbers (p + 4) (q + 4) 4 a b (omega arith) (omega arith) (shifted p q (p + 4) (q + 4) 4 2592 4 a b same refl refl (omega arith)) in
     let used : (raw_table p a).used ≡ (raw_table q b).used = same_below (λ entry. get_or a (p + 32 + 160 * entry) 0) (λ entry. get_or b (q + 32 + 160 * entry) 0) 16 (λ k lt.
     let left : p + 32 + 160 * k ≡ p + (32 + 160 * k) = omega arith in
     let right : q + (32 + 160 * k) ≡ q + 32 + 160 * k = omega arith in
@@ -209,10 +209,10 @@ table_same p q a b long_a long_b same =
 
 pub journal_same : (p q : ℕ) (a b : List ℕ) → p + 1025 ≤ length a → q + 1025 ≤ length b → AreSame 1025 p q a b → raw_journal p a ≡ raw_journal q b
 journal_same p q a b long_a long_b same =
-    let mark : run_at p 4 a ≡ run_at q 4 b = same_runs p q 4 a b (omega arith) (omega arith) (part 1025 p q p q 0 4 a b same (omega arith) (omega arith) (omega arith)) in
-    let epoch : number_at (p + 4) 4 a ≡ number_at (q + 4) 4 b = same_numbers (p + 4) (q + 4) 4 a b (omega arith) (omega arith) (part 1025 p q (p + 4) (q + 4) 4 4 a b same refl refl (omega arith)) in
+    let mark : run_at p 4 a ≡ run_at q 4 b = same_runs p q 4 a b (omega arith) (omega arith) (shifted p q p q 0 1025 4 a b same (omega arith) (omega arith) (omega arith)) in
+    let epoch : number_at (p + 4) 4 a ≡ number_at (q + 4) 4 b = same_numbers (p + 4) (q + 4) 4 a b (omega arith) (omega arith) (shifted p q (p + 4) (q + 4) 4 1025 4 a b same refl refl (omega arith)) in
     let decided : get_or a (p + 8) 0 ≡ get_or b (q + 8) 0 = same 8 (omega arith) in
-    let decision_epoch : number_at (p + 12) 4 a ≡ number_at (q + 12) 4 b = same_numbers (p + 12) (q + 12) 4 a b (omega arith) (omega arith) (part 1025 p q (p + 12) (q + 12) 12 4 a b same refl refl (omega arith)) in
+    let decision_epoch : number_at (p + 12) 4 a ≡ number_at (q + 12) 4 b = same_numbers (p + 12) (q + 12) 4 a b (omega arith) (omega arith) (shifted p q (p + 12) (q + 12) 12 1025 4 a b same refl refl (omega arith)) in
     let gate : get_or a (p + 1024) 0 ≡ get_or b (q + 1024) 0 = same 1024 (omega arith) in
     cc
 

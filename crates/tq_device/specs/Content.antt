@@ -1,7 +1,7 @@
 -- What a device 0 holds, as its reading says.
 use Rattle.std.specs.Prelude.{◌≡◌, ◌⊎◌, ◌<◌, ◌≤◌, ◌+◌, ℕ, List, length, get_or}
 use Rattle.tq_model.specs.Step.{new_volume}
-use Rattle.tq_model.specs.Reading.{Content, Reading, Blank, Holds, Damaged, reading}
+use Rattle.tq_model.specs.Reading.{Content, Blank, Holds, Damaged, reading}
 use Rattle.tq_device.specs.declared.content.DeviceContent.{DeviceContent}
 use Rattle.tq_device.specs.declared.content.Found.{Found}
 use Rattle.tq_device.specs.declared.content.Found.TheVariants as found

@@ -3,7 +3,7 @@ use Rattle.std.specs.Prelude.{◌≡◌, ◌<◌, ◌+◌, ◌-◌, ◌*◌, ℕ
 use Rattle.tq_model.specs.Reading.{RawHeader, RawTable, RawJournal, raw_header, raw_table, raw_journal, table_a, journal_a, below, Holds, reading}
 use Rattle.tq_device.specs.Content.{new_content}
 
--- the length up to which a device is blank, and one byte less than the least of a device that is not
+-- shorter than a device that is not blank
 abbrev pub IsShort : List ℕ → Type 0
 IsShort image = length image < 131072
 

@@ -1,9 +1,9 @@
 -- What the parts of a device 0 without spaces say, each read by itself.
-use Rattle.std.specs.Prelude.{◌≡◌, ℕ, ◌==◌, ◌&&◌, nat_le, not, Bool, if◌then◌else◌, List, codes, get_or}
+use Rattle.std.specs.Prelude.{◌≡◌, ℕ, ◌==◌, ◌&&◌, nat_le, not, Bool, if◌then◌else◌, codes}
 use Rattle.std.specs.List.{list_all}
 use Rattle.std.specs.Str.{bytes_eq}
 use Rattle.tq_model.specs.Site.{least_clusters, most_clusters}
-use Rattle.tq_model.specs.Reading.{RawHeader, RawTable, RawJournal, raw_header, raw_table, raw_journal, last_space, Content, Reading, Blank, Holds, Damaged}
+use Rattle.tq_model.specs.Reading.{RawHeader, RawTable, RawJournal, last_space, Content, Reading, Blank, Holds, Damaged}
 use Rattle.tq_device.specs.Content.{content_view}
 use Rattle.tq_device.specs.declared.content.Found.{Found}
 use Rattle.tq_device.specs.declared.content.Found.TheVariants as found

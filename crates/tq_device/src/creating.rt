@@ -11,8 +11,9 @@ use crate::bytes::{base_start, header_start, padded};
 use crate::layout::HEADER_BYTES;
 use tq_host::{Failed, Host};
 
-/// Makes a blank device one of this site with this many clusters, its epoch 1. A stop inside
-/// leaves it blank or made.
+/// Makes a blank device one of this site, from 1, with 5 to 8,192 clusters, its epoch 1. A stop
+/// inside leaves it blank or made, and so does a call of the outside that failed, which answers
+/// `Failed`.
 pub fn create<H: Host>(
     host: &mut H,
     dev: u8,

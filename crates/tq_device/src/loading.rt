@@ -10,6 +10,7 @@ use crate::layout::{HEADER_BYTES, JOURNAL_A, JOURNAL_B, TABLE_A, TABLE_B, chosen
 use tq_host::{Failed, Host};
 
 /// What the bytes of the device are found to be; every content is judged, and nothing is written.
+/// `Failed` where a call of the outside failed.
 pub fn load<H: Host>(host: &mut H, dev: u8) -> Result<Found, Failed>
     requires { dev < 8 }
     ensures found { IfOk result (λ f. H.tells.reads → IsFoundOn f ((H.view host.old).reads dev)) }

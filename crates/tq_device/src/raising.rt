@@ -10,8 +10,9 @@ use crate::bytes::{base_start, padded};
 use crate::layout::{JOURNAL_A, JOURNAL_B, other};
 use tq_host::{Failed, Host};
 
-/// Raises the epoch of a device that holds this content. A stop inside leaves the old epoch or
-/// the next one.
+/// Raises the epoch, below 2^32 - 1, of a device that holds this content. A stop inside leaves the
+/// old epoch or the next one, and so does a call of the outside that failed, which answers
+/// `Failed`. Answers what the device then holds.
 pub fn raise_epoch<H: Host>(
     host: &mut H,
     dev: u8,

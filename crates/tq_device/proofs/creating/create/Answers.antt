@@ -1,4 +1,3 @@
-use Rattle.std.proofs.Common.{List, ℕ}
 use Rattle.tq_host.proofs.Resting.{rest_on}
 use Rattle.tq_host.proofs.Within.{in_a_row}
 use Rattle.tq_device.specs.Content.{IsAnyStep, IsBlankOrNew}

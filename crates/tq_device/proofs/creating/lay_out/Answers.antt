@@ -1,4 +1,4 @@
-use Rattle.std.proofs.Common.{◌≡◌, ◌∙◌, sym, ap, subst, length, List, ℕ, arith}
+use Rattle.std.proofs.Common.{sym, subst, arith}
 use Rattle.tq_device.specs.Made.{IsLaidOut}
 use Rattle.tq_device.proofs.Making.{at_ok, laid_out}
 use Rattle.tq_device.proofs.creating.lay_out.Goals as goal

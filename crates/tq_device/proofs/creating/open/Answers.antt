@@ -1,4 +1,4 @@
-use Rattle.std.proofs.Common.{◌≡◌, ◌∙◌, sym, subst, List, ℕ, arith}
+use Rattle.std.proofs.Common.{sym, subst, arith}
 use Rattle.tq_host.specs.Calls.{IsPulled}
 use Rattle.tq_host.proofs.Within.{starts, still, changes}
 use Rattle.tq_device.specs.Content.{IsAnyStep, IsBlankOrNew}

@@ -1,4 +1,4 @@
-use Rattle.std.proofs.Common.{◌∙◌, sym, arith}
+use Rattle.std.proofs.Common.{◌∙◌}
 use Rattle.tq_host.proofs.Resting.{rest_on}
 use Rattle.tq_host.proofs.Within.{in_a_row}
 use Rattle.tq_device.specs.Content.{IsAnyStep}

@@ -1,4 +1,4 @@
-use Rattle.std.proofs.Common.{ℕ, ◌+◌, ◌*◌, get_or, sym, arith}
+use Rattle.std.proofs.Common.{◌+◌, ◌*◌, get_or, sym, arith}
 use Rattle.tq_device.proofs.Parts.{all_unused}
 use Rattle.tq_device.proofs.judging.is_unused.Goals as goal
 

@@ -1,4 +1,4 @@
-use Rattle.std.proofs.Common.{◌≡◌, ◌≤◌, ◌∙◌, sym, ap, subst, List, ℕ, length, get_or, arith}
+use Rattle.std.proofs.Common.{◌∙◌, sym, subst, List, ℕ, get_or, arith}
 use Rattle.tq_host.specs.Calls.{StandsAt}
 use Rattle.tq_model.specs.Reading.{chosen, table_a, table_b, journal_a, journal_b}
 use Rattle.tq_device.proofs.Parts.{reading_from, found_is}

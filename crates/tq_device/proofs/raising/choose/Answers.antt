@@ -1,9 +1,8 @@
-use Rattle.std.proofs.Common.{◌≡◌, ◌∙◌, sym, subst, List, ℕ, [], ◌∷◌, arith}
-use Rattle.tq_host.specs.Calls.{IsTorn, IsWritten}
+use Rattle.std.proofs.Common.{sym, subst}
+use Rattle.tq_host.specs.Calls.{IsTorn}
 use Rattle.tq_host.proofs.Within.{starts, still, changes}
 use Rattle.tq_device.specs.Content.{Stands, IsSameButJournal, IsOldOrRaised, content_view}
 use Rattle.tq_device.specs.Raised.{IsFilled, raised}
-use Rattle.tq_device.proofs.Making.{at_ok}
 use Rattle.tq_device.proofs.NextEpoch.{journal_steps, chosen_torn, chosen_written, filled_is_old}
 use Rattle.tq_device.proofs.raising.choose.Goals as goal
 

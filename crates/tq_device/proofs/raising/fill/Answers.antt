@@ -1,4 +1,4 @@
-use Rattle.std.proofs.Common.{◌≡◌, ◌+◌, sym, subst, length, List, ℕ, arith}
+use Rattle.std.proofs.Common.{sym, subst, length, arith}
 use Rattle.tq_host.specs.Calls.{IsTorn}
 use Rattle.tq_host.proofs.Within.{starts, still, changes}
 use Rattle.tq_device.specs.Content.{Stands, IsSameButJournal}
