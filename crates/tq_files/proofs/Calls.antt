@@ -2,7 +2,6 @@
 use Rattle.std.proofs.Common.{◌≡◌, ◌≤◌, ℕ, List, length, Result, Ok, Err, IfOk, OnOk, OnErr, refl, subst, ap, inr, arith}
 use Rattle.std.specs.Counts.{IsPrefixLen}
 use Rattle.tq_host.specs.declared.host.Failed.{Failed}
-use Rattle.tq_host.specs.View.{View}
 use Rattle.tq_host.specs.Calls.{IsDeviceCall, IsStreamCall, Takes, Gives, next}
 use Rattle.tq_files.specs.declared.tally.Tally.{Tally}
 use Rattle.tq_files.specs.declared.tally.Part.TheVariants.{Devices, Input, Output}

@@ -1,5 +1,5 @@
 -- What a host over files tells: its clock and its counts, and nothing of its content.
-use Rattle.std.specs.Prelude.{◌≤◌, ℕ, []}
+use Rattle.std.specs.Prelude.{◌≤◌, []}
 use Rattle.tq_host.specs.View.{Told, View, IsLawful}
 use Rattle.tq_host.specs.Calls.{next}
 use Rattle.tq_files.specs.declared.tally.Tally.{Tally}

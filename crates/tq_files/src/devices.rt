@@ -1,8 +1,8 @@
 ghost use Rattle.std.specs.Prelude.{◌<◌};
 
 use std::fs::{File, OpenOptions};
-use std::io::{Read, Seek, SeekFrom, Write};
 use std::io;
+use std::io::{Read, Seek, SeekFrom, Write};
 
 /// The opened files of eight devices.
 #[derive(Drop)]
@@ -22,12 +22,13 @@ impl Devices {
         }
     }
 
-    /// Opens a file that is there, for reading and writing.
+    /// Opens a file that is there, for reading and writing. It takes the place of no standard stream,
+    /// even where one was closed before the program began: a copy of a handle is never one of them.
     pub fn attach(&mut self, rt: HostRuntime, dev: u8, path: &str) -> io::Result<()>
         requires { dev < 8 }
     {
         let file = OpenOptions::new().read(true).write(true).open(&rt, path)?;
-        self.files[dev as usize] = Some(file);
+        self.files[dev as usize] = Some(file.try_clone()?);
         Ok(())
     }
 

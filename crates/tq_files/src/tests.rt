@@ -1,8 +1,7 @@
+use crate::FileHost;
 use std::test::Fail;
 use std::{env, fs, process};
 use tq_host::{Failed, Host};
-
-use crate::FileHost;
 
 // What one attached device reads and does, over a real file.
 #[test]
@@ -27,7 +26,10 @@ fn works_on_a_file(rt: HostRuntime) -> Result<(), Fail> {
     assert_eq!(rt; bytes, *b"\0abc");
     assert_eq!(rt; host.read_at(0, 7, &mut bytes), Err(Failed), "past the end");
     assert_eq!(rt; host.set_length(0, 7), Ok(()));
-    assert_eq!(rt; fs::read_to_string(&rt, path.as_str())?.as_str(), "\0\0\0\0\0\0a");
+    assert_eq!(rt;
+        fs::read_to_string(&rt, path.as_str())?.as_str(),
+        "\0\0\0\0\0\0a"
+    );
     fs::remove_file(&rt, path.as_str())?;
     Ok(())
 }

@@ -1,4 +1,3 @@
-use Rattle.std.proofs.Common.{◌≤◌, length, Result, Ok, Err, IfOk, refl}
 use Rattle.tq_files.proofs.Calls.{take_call, took, within}
 use Rattle.tq_files.proofs.file_host.FileHostHost.take.Goals as goal
 
