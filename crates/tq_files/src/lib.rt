@@ -1,0 +1,10 @@
+//! The outside over device files, standard input and standard output.
+#![tactic(auto)]
+
+mod devices;
+mod file_host;
+mod tally;
+#[cfg(test)]
+mod tests;
+
+pub use file_host::FileHost;
