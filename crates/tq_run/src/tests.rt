@@ -268,7 +268,10 @@ fn each_call_that_fails_has_its_status(rt: HostRuntime) -> Result<(), Fail> {
     for call in (0..12u64).chain(129..143) {
         let mut host = outside(alloc, b"".as_slice(), b"crdl 0 64\nlidl 0\n".as_slice(), 64)?;
         host.fail_at(call)?;
-        assert!(rt; run(alloc, &words, &mut host) == status_at(call), "at {call}");
+        assert!(rt;
+            run(alloc, &words, &mut host) == status_at(call),
+            "at {call}"
+        );
         // nothing is given where line 0 fails
         assert!(rt; call > 3 || host.output().is_empty());
     }
