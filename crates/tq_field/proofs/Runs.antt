@@ -1,6 +1,8 @@
 -- What a run or a number written at a place changes, and what is read there and elsewhere.
+-- With `written : new ≡ with_number at width x old` a caller has, above the number,
+-- `ap (number_at i k) written ∙ number_at-with_number_above i k at width _ _ fits (omega arith)`.
 use Rattle.std.proofs.Common.{◌≡◌, ℕ, ◌+◌, ◌-◌, ◌^◌, ◌<◌, ◌≤◌, ◌/◌, ◌%◌, suc, List, [], ◌∷◌, ◌++◌, length, take, drop, get_or, sym, ap, subst, ◌∙◌, arith}
-use Rattle.std.proofs.lemmas.List.{length-append, length-take-le, length-drop, take-append-drop, take-append-le, take_at, drop_at, drop_more, drop-append-le, drop-drop, get_or_append_left, get_or-append_right, get_or-take, get_or-drop}
+use Rattle.std.proofs.lemmas.List.{take-take, length-append, length-take-le, length-drop, take-append-drop, take-append-le, take_at, drop_at, drop_more, drop-append-le, drop-drop, get_or_append_left, get_or-append_right, get_or-take, get_or-drop}
 use Rattle.std.proofs.lemmas.List.Elements.{All-append, All-take, All-drop}
 use Rattle.tq_field.specs.Digits.{AreBytes, number_of, digits}
 use Rattle.tq_field.specs.Places.{run_at, with_run, number_at, with_number}
@@ -81,12 +83,22 @@ pub take-with_run : (at n : ℕ) (run bytes : List ℕ) → at ≤ length bytes 
 take-with_run at n run bytes within =
     take_at (take at bytes) (run ++ drop (at + n) bytes) at (length-take-le at bytes within)
 
+-- what stands past a place above the run
+pub drop-with_run_above : (i at n : ℕ) (run bytes : List ℕ) → length run ≡ n → at + n ≤ length bytes → at + n ≤ i → drop i (with_run at n run bytes) ≡ drop i bytes
+drop-with_run_above i at n run bytes long within above =
+    let past : at + n + (i - (at + n)) ≡ i = omega arith in
+    let moved = λ (xs : List ℕ). ap (λ (j : ℕ). drop j xs) (sym past) ∙ sym (drop-drop (i - (at + n)) (at + n) xs) in
+    moved (with_run at n run bytes) ∙ ap (drop (i - (at + n))) (drop-with_run at n run bytes long within) ∙ sym (moved bytes)
+
+-- what stands before a place below the run
+pub take-with_run_below : (i at n : ℕ) (run bytes : List ℕ) → i ≤ at → at ≤ length bytes → take i (with_run at n run bytes) ≡ take i bytes
+take-with_run_below i at n run bytes below within =
+    sym (take-take i at (with_run at n run bytes) below) ∙ ap (take i) (take-with_run at n run bytes within) ∙ take-take i at bytes below
+
 -- a run above the place reads as before
 pub run_at-with_run_above : (i k at n : ℕ) (run bytes : List ℕ) → length run ≡ n → at + n ≤ length bytes → at + n ≤ i → run_at i k (with_run at n run bytes) ≡ run_at i k bytes
 run_at-with_run_above i k at n run bytes long within above =
-    let past : at + n + (i - (at + n)) ≡ i = omega arith in
-    let moved = λ (xs : List ℕ). ap (λ (j : ℕ). drop j xs) (sym past) ∙ sym (drop-drop (i - (at + n)) (at + n) xs) in
-    ap (take k) (moved (with_run at n run bytes) ∙ ap (drop (i - (at + n))) (drop-with_run at n run bytes long within) ∙ sym (moved bytes))
+    ap (take k) (drop-with_run_above i at n run bytes long within above)
 
 -- a run that is written where it stands changes nothing
 pub with_run-run_at : (at n : ℕ) (bytes : List ℕ) → with_run at n (run_at at n bytes) bytes ≡ bytes
@@ -170,6 +182,26 @@ number_at-with_number_below i k at width x bytes below within =
 pub number_at-with_number_above : (i k at width x : ℕ) (bytes : List ℕ) → at + width ≤ length bytes → at + width ≤ i → number_at i k (with_number at width x bytes) ≡ number_at i k bytes
 number_at-with_number_above i k at width x bytes within above =
     ap number_of (run_at-with_run_above i k at width (digits width x) bytes (length-digits width x) within above)
+
+-- what stands past a place above the number
+pub drop-with_number_above : (i at width x : ℕ) (bytes : List ℕ) → at + width ≤ length bytes → at + width ≤ i → drop i (with_number at width x bytes) ≡ drop i bytes
+drop-with_number_above i at width x bytes within above =
+    drop-with_run_above i at width (digits width x) bytes (length-digits width x) within above
+
+-- what stands before a place below the number
+pub take-with_number_below : (i at width x : ℕ) (bytes : List ℕ) → i ≤ at → at ≤ length bytes → take i (with_number at width x bytes) ≡ take i bytes
+take-with_number_below i at width x bytes below within =
+    take-with_run_below i at width (digits width x) bytes below within
+
+-- a run below the number reads as before
+pub run_at-with_number_below : (i k at width x : ℕ) (bytes : List ℕ) → i + k ≤ at → at + width ≤ length bytes → run_at i k (with_number at width x bytes) ≡ run_at i k bytes
+run_at-with_number_below i k at width x bytes below within =
+    run_at-with_run_below i k at width (digits width x) bytes below within
+
+-- a run above the number reads as before
+pub run_at-with_number_above : (i k at width x : ℕ) (bytes : List ℕ) → at + width ≤ length bytes → at + width ≤ i → run_at i k (with_number at width x bytes) ≡ run_at i k bytes
+run_at-with_number_above i k at width x bytes within above =
+    run_at-with_run_above i k at width (digits width x) bytes (length-digits width x) within above
 
 -- the digits of the number that bytes spell, written where it was read, are the bytes that were read
 pub with_number-number_at : (at width : ℕ) (bytes : List ℕ) → at + width ≤ length bytes → AreBytes bytes → with_number at width (number_at at width bytes) bytes ≡ bytes
