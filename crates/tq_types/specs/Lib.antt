@@ -1,0 +1,11 @@
+pub mod Padded
+pub mod Name
+pub mod BadName
+pub mod Path
+pub mod MsgId
+pub mod Order
+pub mod OrderValue
+pub mod XId
+pub mod BadXId
+pub mod Label
+pub mod OwnArrival
