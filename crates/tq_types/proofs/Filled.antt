@@ -1,5 +1,5 @@
 -- A list at the front of a blank one.
-use Rattle.std.proofs.Common.{◌≡◌, ◌<◌, ◌≤◌, ℕ, ◌+◌, ◌-◌, List, ◌++◌, length, get_or, drop, replicate, refl, ◌∙◌, arith, length-append, length-drop, get_or-drop}
+use Rattle.std.proofs.Common.{◌<◌, ◌≤◌, ℕ, ◌+◌, ◌-◌, List, ◌++◌, length, drop, replicate, refl, ◌∙◌, arith, length-append, length-drop, get_or-drop}
 use Rattle.std.proofs.lemmas.List.{length-replicate, get_or-replicate, get_or-append_right}
 use Rattle.tq_types.specs.Padded.{IsPadded}
 

@@ -16,12 +16,16 @@ use Rattle.tq_types.specs.declared.labels.Label.{Label}
 abbrev pub arrival_cmp : Arrival → Arrival → Ordering
 arrival_cmp = then_cmp (on (λ a. a.epoch) nat_cmp) (on (λ a. a.number) nat_cmp)
 
+-- a value before none
+abbrev pub none_last_cmp : {X : Type 0} → (X → X → Ordering) → Option X → Option X → Ordering
+none_last_cmp cmp (Some x) (Some y) = cmp x y
+none_last_cmp cmp (Some x) None = Less
+none_last_cmp cmp None (Some y) = Greater
+none_last_cmp cmp None None = Equal
+
 -- the earlier expiration first, and none last
 abbrev pub expiration_cmp : Option ℕ → Option ℕ → Ordering
-expiration_cmp (Some m) (Some n) = nat_cmp m n
-expiration_cmp (Some m) None = Less
-expiration_cmp None (Some n) = Greater
-expiration_cmp None None = Equal
+expiration_cmp = none_last_cmp nat_cmp
 
 -- the higher priority, the earlier available time or the earlier expiration first
 abbrev pub criterion_cmp : Criterion → Root → Root → Ordering

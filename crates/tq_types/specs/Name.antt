@@ -1,5 +1,5 @@
 -- The texts that are names.
-use Rattle.std.specs.Prelude.{◌≡◌, ◌<◌, ◌≤◌, ℕ, Bool, not, ◌&&◌, ◌||◌, ◌==◌, nat_le, IsTrue, List, length, slice_index}
+use Rattle.std.specs.Prelude.{◌<◌, ◌≤◌, ℕ, Bool, not, ◌&&◌, ◌||◌, ◌==◌, nat_le, IsTrue, List, length, slice_index}
 
 abbrev pub is_between : ℕ → ℕ → ℕ → Bool
 is_between low high n = nat_le low n && nat_le n high

@@ -1,6 +1,6 @@
 -- Lists of a fixed size that begin with a list of their own and are blank after it.
 use Rattle.std.specs.Prelude.{◌≡◌, ◌<◌, ◌≤◌, ℕ, ◌+◌, ◌-◌, List, ◌++◌, length, take, drop, replicate, slice_index_or}
-use Rattle.std.proofs.Common.{arith, sym, ap, ◌∙◌, get_or, length-take, length-drop, get_or-drop, ⊎_elim}
+use Rattle.std.proofs.Common.{arith, sym, ap, ◌∙◌, get_or, length-take, length-drop, get_or-drop}
 use Rattle.std.proofs.lemmas.List.{ext_get_or, take-append-drop, length-replicate, get_or-replicate}
 
 -- the first `len` of the `most` items are the list, the others are blank

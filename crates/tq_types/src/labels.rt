@@ -1,4 +1,4 @@
-ghost use Rattle.std.specs.Prelude.{◌≡◌};
+ghost use Rattle.std.specs.Prelude.{◌≡◌, ◌≢◌};
 ghost use Rattle.tq_types.specs.Label.{label_cmp, root_cmp, criteria_cmp, criterion_cmp, expiration_cmp, path_cmp, arrival_cmp, last_cmp};
 ghost use Rattle.tq_types.specs.OwnArrival.{own_arrival};
 
@@ -37,7 +37,9 @@ impl Label {
 
 /// The label order: `Less` where the first label stands before the second in a queue of this order.
 pub fn compare(order: &Order, a: &Label, b: &Label) -> Ordering
-    ensures { result ≡ label_cmp order.now a.now b.now }
+    ensures order { result ≡ label_cmp order.now a.now b.now }
+    // labels of two messages are always told apart
+    ensures apart { own_arrival a.now ≢ own_arrival b.now → result ≢ Ordering.Equal }
 {
     compare_roots(order, &a.root, &b.root).then(compare_paths(a.path.as_slice(), b.path.as_slice()))
 }
@@ -50,7 +52,11 @@ fn compare_roots(order: &Order, a: &Root, b: &Root) -> Ordering
         (true, true) => compare_arrivals(&b.arrival, &a.arrival),
         (true, false) => Ordering::Less,
         (false, true) => Ordering::Greater,
-        (false, false) => compare_criteria(order.criteria(), a, b).then(compare_last(order.last(), a, b)),
+        (false, false) => compare_criteria(order.criteria(), a, b).then(compare_last(
+            order.last(),
+            a,
+            b,
+        )),
     }
 }
 

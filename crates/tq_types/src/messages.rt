@@ -23,7 +23,7 @@ pub enum AskedQos {
 
 /// A message: its priority is 1 to 100, its times are moments, and its arrival is the epoch and the
 /// number of its identifier.
-#[derive(Debug, Drop)]
+#[derive(Debug, Drop, PartialEq, Eq)]
 pub struct Message {
     pub id: MsgId,
     pub corr: Option<CorrId>,
@@ -73,7 +73,7 @@ pub enum Mark {
 }
 
 /// An entry of a queue, which is named by its index in the space.
-#[derive(Debug, Drop)]
+#[derive(Debug, Drop, PartialEq, Eq)]
 pub struct Entry {
     pub queue: u16,
     pub label: Label,

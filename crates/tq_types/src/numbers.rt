@@ -38,13 +38,9 @@ impl Moment {
         ensures { MatchResult result (λ moment. (moment ≡ n) × (n ≤ 253402300799)) (λ bad. (bad.seconds ≡ n) × (253402300799 < n)) }
     {
         if n > Moment::LAST {
-            return Err(BadMoment {
-                seconds: n,
-            });
+            return Err(BadMoment { seconds: n });
         }
-        Ok(Moment {
-            seconds: n,
-        })
+        Ok(Moment { seconds: n })
     }
 
     /// The seconds since 1970-01-01T00:00:00Z.
@@ -87,13 +83,9 @@ impl Priority {
         ensures { MatchResult result (λ priority. (priority ≡ n) × (1 ≤ n) × (n ≤ 100)) (λ bad. (bad.level ≡ n) × ((n < 1) ⊎ (100 < n))) }
     {
         if n == 0 || n > 100 {
-            return Err(BadPriority {
-                level: n,
-            });
+            return Err(BadPriority { level: n });
         }
-        Ok(Priority {
-            level: n as u8,
-        })
+        Ok(Priority { level: n as u8 })
     }
 
     /// The number, 1 to 100.

@@ -60,11 +60,38 @@ impl Criteria {
             len: list.len() as u8,
         }
     }
+
+    fn as_slice(&self) -> &[Criterion]
+        ensures list { result.now ≡ self.now }
+        ensures most { length self.now ≤ 3 }
+    {
+        &self.items[..self.len as usize]
+    }
+}
+
+impl PartialEq for Criteria {
+    ghost use Rattle.std.specs.Cmp.Lexicographic.{pointwise, lists_per};
+    ghost use Rattle.tq_types.specs.contracts.orders.CriterionPartialEq.TheImpl.Laws.{laws-law};
+
+    ghost eq = { pointwise ⟦<Criterion as PartialEq>⟧.eq };
+
+    ghost laws = { lists_per laws-law };
+
+    fn eq(&self, other: &Criteria) -> bool {
+        self.as_slice() == other.as_slice()
+    }
+}
+
+impl Eq for Criteria {
+    ghost use Rattle.std.specs.Cmp.Lexicographic.{lists_equiv};
+    ghost use Rattle.tq_types.specs.contracts.orders.CriterionEq.TheImpl.Laws.{laws-law};
+
+    ghost laws = { lists_equiv laws-law };
 }
 
 /// The order of a queue's messages: distinct criteria, the most significant first, and the arrivals
 /// last.
-#[derive(Clone, Copy, Debug)]
+#[derive(Clone, Copy, Debug, PartialEq, Eq)]
 pub struct Order {
     criteria: Criteria,
     last: Last,
@@ -98,9 +125,7 @@ impl Order {
     {
         for (at, criterion) in criteria.iter().enumerate() {
             if criteria[..at].contains(criterion) {
-                return Err(BadOrder {
-                    at,
-                });
+                return Err(BadOrder { at });
             }
         }
         Ok(Order {
@@ -115,8 +140,7 @@ impl Order {
         ensures most { length result.now ≤ 3 }
         ensures distinct { IsDistinct result.now }
     {
-        let criteria = &self.criteria;
-        &criteria.items[..criteria.len as usize]
+        self.criteria.as_slice()
     }
 
     /// How the arrivals decide.

@@ -84,13 +84,12 @@ impl Path {
 }
 
 impl PartialEq for Path {
-    ghost use Rattle.std.specs.Prelude.{◌==◌};
     ghost use Rattle.std.proofs.Common.{rules};
-    ghost use Rattle.std.specs.Ordering.{on, eq_of_both};
-    ghost use Rattle.std.specs.Cmp.Lexicographic.{pointwise, lists_per};
+    ghost use Rattle.std.specs.Cmp.Lexicographic.{lists_per};
     ghost use Rattle.std.specs.Cmp.Rules.{comparing};
+    ghost use Rattle.tq_types.specs.Path.{path_eq};
 
-    ghost eq = { pointwise (eq_of_both (on (λ a. a.epoch) ◌==◌) (on (λ a. a.number) ◌==◌)) };
+    ghost eq = { path_eq };
 
     ghost laws = { lists_per (Prim.search (comparing, rules)) };
 

@@ -1,0 +1,9 @@
+use Rattle.std.proofs.Common.{◌≡◌, Equal}
+use Rattle.tq_types.specs.Label.{label_cmp}
+use Rattle.tq_types.proofs.LabelOrder.{own-equal}
+use Rattle.tq_types.proofs.labels.compare.Goals as goal
+
+pub returns-clause-apart : goal.returns-clause-apart
+returns-clause-apart c differ equal =
+    let same : label_cmp c.args.order.now c.args.a.now c.args.b.now ≡ Equal = cc in
+    differ (own-equal c.args.order.now c.args.a.now c.args.b.now same)
