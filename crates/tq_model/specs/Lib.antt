@@ -4,3 +4,9 @@ pub mod Text
 pub mod Grammar
 pub mod Reading
 pub mod Faulty
+pub mod CallFlags
+pub mod Space
+pub mod Room
+pub mod Moves
+pub mod EnqueueStep
+pub mod DequeueStep

@@ -3,9 +3,16 @@
 #![tactic(auto)]
 
 mod answer;
+mod calls;
 mod grammar;
 mod request;
+mod space;
 
 pub use answer::{Answer, Capacity, DeviceAnswer, Field, Identity, Listing, Readiness};
+pub use calls::{
+    CallAnswer, Delivery, DequeueAsk, DequeueCall, DequeueWords, EnqueueAsk, EnqueueCall, EnqueueWords,
+    Flag, Flags, Place,
+};
 pub use grammar::{Key, Kind, Value, Verb};
 pub use request::{Creation, DeviceRequest, Request};
+pub use space::{Change, QueueDef, Shape, SpaceMove};

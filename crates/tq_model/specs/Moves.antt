@@ -1,0 +1,139 @@
+-- Moves: a space whose queues have indices, and what a list of moves makes of it.
+use Rattle.std.specs.Prelude.{ℕ, ◌==◌, ◌-◌, Bool, true, false, if◌then◌else◌, List, [], ◌∷◌, length, map, Option, Some, None, nat_le}
+use Rattle.std.specs.List.{find, list_any, insert, remove, position_or_len}
+use Rattle.tq_types.specs.declared.identifiers.MsgId.{MsgId}
+use Rattle.tq_types.specs.declared.messages.Mark.{Mark}
+use Rattle.tq_types.specs.declared.messages.Mark.TheVariants as marks
+use Rattle.tq_types.specs.declared.messages.Message.{Message}
+use Rattle.tq_types.specs.declared.messages.Entry.{Entry}
+use Rattle.tq_model.specs.declared.space.Change.{Change}
+use Rattle.tq_model.specs.declared.space.QueueDef.{QueueDef}
+use Rattle.tq_model.specs.declared.space.SpaceMove.{SpaceMove}
+use Rattle.tq_model.specs.declared.space.SpaceMove.TheVariants.{Insert, Remove, Replace, PutQueue, DropQueue}
+use Rattle.tq_model.specs.Space.{Owner, Session, Forwarder, Holding, Free, Adding, Taking, Here, Letter, Item, Queue, Limits, Space, change_first, has_id, holds_id, with_item, without_item, name_before}
+
+pub record IndexedQueue : Type 0 where
+  pub index : ℕ
+  pub queue : Queue
+
+pub record IndexedSpace : Type 0 where
+  pub site : ℕ
+  pub number : ℕ
+  pub limits : Limits
+  pub error : Option (List ℕ)
+  pub queues : List IndexedQueue  -- ascending by name
+
+abbrev pub the_queue : IndexedQueue → Queue
+the_queue q = q.queue
+
+abbrev pub space_of : IndexedSpace → Space
+space_of s = record { site = s.site; number = s.number; limits = s.limits; error = s.error; queues = map the_queue s.queues }
+
+-- What stands in an entry
+
+-- the owner whose number stands in a mark: a session's own number, or a forwarder's and 32; branches have none yet
+abbrev pub owner_of : ℕ → Owner
+owner_of n = if nat_le n 32 then Session n else Forwarder (n - 32)
+
+abbrev pub holding_of : Mark → Holding
+holding_of marks.Free = Free
+holding_of (marks.Adding n) = Adding (owner_of n)
+holding_of (marks.Taking n) = Taking (owner_of n)
+
+abbrev pub letter_of : Message → Letter
+letter_of m =
+    record {
+      id = m.id;
+      corr = m.corr;
+      replyq = m.replyq;
+      failq = m.failq;
+      priority = m.priority;
+      available = m.available;
+      expiration = m.expiration;
+      qos = m.qos;
+      reply_qos = m.reply_qos;
+      urcode = m.urcode;
+      retries = m.retries;
+      body = Here m.body;
+    }
+
+abbrev pub item_of : Entry → Item
+item_of e = record { label = e.label; holding = holding_of e.mark; letter = letter_of e.message }
+
+abbrev pub changed_letter : Change → Letter → Letter
+changed_letter c letter = record letter { priority = c.priority; available = c.available; expiration = c.expiration; retries = c.retries }
+
+abbrev pub changed_item : Change → Item → Item
+changed_item c item = record { label = c.label; holding = holding_of c.mark; letter = changed_letter c item.letter }
+
+abbrev pub queue_of : QueueDef → List Item → Queue
+queue_of d items =
+    record {
+      name = d.name;
+      order = d.order;
+      top = d.top;
+      before = d.before;
+      qos = d.qos;
+      retries = d.retries;
+      delay = d.delay;
+      items = items;
+    }
+
+-- One move
+
+abbrev pub has_index : ℕ → IndexedQueue → Bool
+has_index index q = q.index == index
+
+abbrev pub on_queue : (Queue → Queue) → IndexedQueue → IndexedQueue
+on_queue change q = record q { queue = change q.queue }
+
+abbrev pub item_inserted : ℕ → Item → List IndexedQueue → List IndexedQueue
+item_inserted index item queues = change_first (has_index index) (on_queue (with_item item)) queues
+
+abbrev pub indexed_holds : MsgId → IndexedQueue → Bool
+indexed_holds id q = holds_id id q.queue
+
+abbrev pub item_removed : MsgId → List IndexedQueue → List IndexedQueue
+item_removed id queues = change_first (indexed_holds id) (on_queue (without_item id)) queues
+
+abbrev pub item_with_id : MsgId → List IndexedQueue → Option Item
+item_with_id id [] = None
+item_with_id id (q ∷ qs) = if holds_id id q.queue then find (has_id id) q.queue.items else item_with_id id qs
+
+abbrev pub item_replaced : Change → Option Item → List IndexedQueue → List IndexedQueue
+item_replaced c None queues = queues
+item_replaced c (Some item) queues = item_inserted c.queue (changed_item c item) (item_removed c.id queues)
+
+abbrev pub comes_before : List ℕ → IndexedQueue → Bool
+comes_before name q = name_before name q.queue.name
+
+abbrev pub queue_added : ℕ → QueueDef → List IndexedQueue → List IndexedQueue
+queue_added index d queues = insert queues (position_or_len (comes_before d.name) queues) (record { index = index; queue = queue_of d [] })
+
+abbrev pub queue_put : ℕ → QueueDef → List IndexedQueue → List IndexedQueue
+queue_put index d queues =
+    if list_any (has_index index) queues then change_first (has_index index) (on_queue (λ queue. queue_of d queue.items)) queues
+    else queue_added index d queues
+
+abbrev pub queue_dropped : ℕ → List IndexedQueue → List IndexedQueue
+queue_dropped index queues = remove queues (position_or_len (has_index index) queues)
+
+abbrev pub queues_moved : SpaceMove → List IndexedQueue → List IndexedQueue
+queues_moved (Insert e) queues = item_inserted e.queue (item_of e) queues
+queues_moved (Remove id) queues = item_removed id queues
+queues_moved (Replace c) queues = item_replaced c (item_with_id c.id queues) queues
+queues_moved (PutQueue index d) queues = queue_put index d queues
+queues_moved (DropQueue index) queues = queue_dropped index queues
+
+abbrev pub moved : SpaceMove → IndexedSpace → IndexedSpace
+moved move s = record s { queues = queues_moved move s.queues }
+
+-- the moves one after another
+abbrev pub moved_by : List SpaceMove → IndexedSpace → IndexedSpace
+moved_by [] s = s
+moved_by (move ∷ moves) s = moved_by moves (moved move s)
+
+-- the entries of these identifiers go, one after another
+abbrev pub purged_of : List MsgId → IndexedSpace → IndexedSpace
+purged_of [] s = s
+purged_of (id ∷ ids) s = purged_of ids (moved (Remove id) s)

@@ -1,0 +1,194 @@
+-- A space: its queues by name, and the entries of each in the order of their labels.
+use Rattle.std.specs.Prelude.{ℕ, ◌+◌, ◌-◌, ◌*◌, ◌/◌, ◌==◌, ◌&&◌, nat_lt, nat_le, Bool, true, false, not, cond, List, [], ◌∷◌, length, map, filter, Option, Some, None, unwrap_or, option_map, ℤ}
+use Rattle.std.specs.List.{find, list_any, insert, remove, position_or_len}
+use Rattle.std.specs.declared.cmp.Ordering.{Ordering}
+use Rattle.std.specs.Ordering.{is_lt, nat_cmp}
+use Rattle.std.specs.Cmp.Lexicographic.{slice_cmp}
+use Rattle.std.specs.Str.{bytes_eq}
+use Rattle.tq_types.specs.Label.{label_cmp}
+use Rattle.tq_types.specs.OrderValue.{OrderValue}
+use Rattle.tq_types.specs.XId.{XIdValue}
+use Rattle.tq_types.specs.declared.identifiers.MsgId.{MsgId}
+use Rattle.tq_types.specs.declared.identifiers.CorrId.{CorrId}
+use Rattle.tq_types.specs.declared.labels.Label.{Label}
+use Rattle.tq_types.specs.declared.messages.Qos.{Qos}
+use Rattle.tq_types.specs.declared.messages.Qos.TheVariants.{Persistent, NonPersistent}
+use Rattle.tq_types.specs.declared.messages.AskedQos.{AskedQos}
+use Rattle.tq_model.specs.declared.space.Shape.{Shape}
+
+-- a transaction: a session's, a forwarder's call, or a branch by its space's number and its identifier
+pub data Owner : Type 0 where
+  Session : ℕ → Owner
+  Forwarder : ℕ → Owner
+  Branch : ℕ → XIdValue → Owner
+
+-- whether a transaction holds an entry
+pub data Holding : Type 0 where
+  Free : Holding
+  Adding : Owner → Holding
+  Taking : Owner → Holding
+
+-- a body: its bytes, or its length where the bytes are on pages
+pub data Content : Type 0 where
+  Here : List ℕ → Content
+  Stored : ℕ → Content
+
+abbrev pub body_length : Content → ℕ
+body_length (Here bytes) = length bytes
+body_length (Stored n) = n
+
+pub record Letter : Type 0 where
+  pub id : MsgId
+  pub corr : Option CorrId
+  pub replyq : Option (List ℕ)
+  pub failq : Option (List ℕ)
+  pub priority : ℕ
+  pub available : ℕ
+  pub expiration : Option ℕ
+  pub qos : Qos
+  pub reply_qos : AskedQos
+  pub urcode : ℤ
+  pub retries : ℕ
+  pub body : Content
+
+-- an entry of a queue
+pub record Item : Type 0 where
+  pub label : Label
+  pub holding : Holding
+  pub letter : Letter
+
+pub record Queue : Type 0 where
+  pub name : List ℕ
+  pub order : OrderValue
+  pub top : Bool
+  pub before : Bool
+  pub qos : Qos
+  pub retries : ℕ
+  pub delay : ℕ
+  pub items : List Item  -- ascending by the label order
+
+-- the limits of a space's creation, the pages being those for messages
+pub record Limits : Type 0 where
+  pub pages : ℕ
+  pub queues : ℕ
+  pub messages : ℕ
+  pub transactions : ℕ
+  pub memory : ℕ
+
+pub record Space : Type 0 where
+  pub site : ℕ
+  pub number : ℕ
+  pub limits : Limits
+  pub error : Option (List ℕ)  -- the name of the error queue
+  pub queues : List Queue  -- ascending by name
+
+-- A new space
+
+abbrev pub divided_up : ℕ → ℕ → ℕ
+divided_up n by = (n + (by - 1)) / by
+
+-- the pages of one copy of the slots, and of one copy of the log
+abbrev pub slot_pages : Shape → ℕ
+slot_pages s = divided_up (64 + 512 * s.queues + 64 * s.messages + 160 * s.transactions) 1024
+
+abbrev pub log_pages : Shape → ℕ
+log_pages s = 16 + divided_up (72 * s.messages) 1024
+
+abbrev pub overhead_pages : Shape → ℕ
+overhead_pages s = 1 + 2 * (slot_pages s + log_pages s)
+
+abbrev pub limits_of : Shape → Limits
+limits_of s =
+    record {
+      pages = s.pages - overhead_pages s;
+      queues = s.queues;
+      messages = s.messages;
+      transactions = s.transactions;
+      memory = s.memory;
+    }
+
+-- a space without queues
+abbrev pub new_space : Shape → ℕ → ℕ → Space
+new_space s site number = record { site = site; number = number; limits = limits_of s; error = s.error; queues = [] }
+
+-- Finding
+
+abbrev pub same_id : MsgId → MsgId → Bool
+same_id a b = a.site == b.site && a.space == b.space && a.epoch == b.epoch && a.number == b.number
+
+abbrev pub has_id : MsgId → Item → Bool
+has_id id item = same_id item.letter.id id
+
+abbrev pub is_named : List ℕ → Queue → Bool
+is_named name queue = bytes_eq queue.name name
+
+abbrev pub queue_named : List ℕ → List Queue → Option Queue
+queue_named name queues = find (is_named name) queues
+
+-- the list with the first that passes the test changed
+abbrev pub change_first : {X : Type 0} → (X → Bool) → (X → X) → List X → List X
+change_first test change [] = []
+change_first test change (x ∷ xs) = cond (test x) (change x ∷ xs) (x ∷ change_first test change xs)
+
+-- Entries in their places
+
+-- whether the item's label stands before the other's
+abbrev pub stands_before : OrderValue → Item → Item → Bool
+stands_before order item other = is_lt (label_cmp order item.label other.label)
+
+-- the items with one more, right before the first that its label stands before
+abbrev pub placed : OrderValue → Item → List Item → List Item
+placed order item items = insert items (position_or_len (stands_before order item) items) item
+
+abbrev pub with_item : Item → Queue → Queue
+with_item item queue = record queue { items = placed queue.order item queue.items }
+
+-- the items without the one of that identifier
+abbrev pub dropped : MsgId → List Item → List Item
+dropped id items = remove items (position_or_len (has_id id) items)
+
+abbrev pub holds_id : MsgId → Queue → Bool
+holds_id id queue = list_any (has_id id) queue.items
+
+abbrev pub without_item : MsgId → Queue → Queue
+without_item id queue = record queue { items = dropped id queue.items }
+
+-- the queues without the entry of that identifier
+abbrev pub without : MsgId → List Queue → List Queue
+without id queues = change_first (holds_id id) (without_item id) queues
+
+abbrev pub with_item_in : List ℕ → Item → List Queue → List Queue
+with_item_in name item queues = change_first (is_named name) (with_item item) queues
+
+-- the space without the entry of that identifier
+abbrev pub space_without : MsgId → Space → Space
+space_without id s = record s { queues = without id s.queues }
+
+-- whether a name comes before another
+abbrev pub name_before : List ℕ → List ℕ → Bool
+name_before a b = is_lt (slice_cmp nat_cmp a b)
+
+-- Eligible and expired
+
+abbrev pub is_free : Holding → Bool
+is_free Free = true
+is_free (Adding owner) = false
+is_free (Taking owner) = false
+
+-- at most t, where there is one
+abbrev pub is_past : ℕ → Option ℕ → Bool
+is_past t None = false
+is_past t (Some at) = nat_le at t
+
+abbrev pub is_eligible : ℕ → Item → Bool
+is_eligible t item = is_free item.holding && nat_le item.letter.available t && not (is_past t item.letter.expiration)
+
+abbrev pub is_expired : ℕ → Item → Bool
+is_expired t item = is_free item.holding && is_past t item.letter.expiration
+
+-- The purge at t: the Free entries go whose expiration is at most t.
+abbrev pub purged_queue : ℕ → Queue → Queue
+purged_queue t queue = record queue { items = filter (λ item. not (is_expired t item)) queue.items }
+
+abbrev pub purged : ℕ → Space → Space
+purged t s = record s { queues = map (purged_queue t) s.queues }

@@ -1,0 +1,56 @@
+use tq_types::{Entry, Label, Mark, MsgId, Name, Order, Qos};
+
+/// How a space is created.
+#[derive(Clone, Copy, Debug, PartialEq, Eq)]
+pub struct Shape {
+    /// All pages, those of the overhead included.
+    pub pages: u32,
+    pub queues: u16,
+    pub messages: u16,
+    pub transactions: u16,
+    /// The most bytes of the bodies of messages that are not persistent.
+    pub memory: u64,
+    /// The name of the error queue.
+    pub error: Option<Name>,
+}
+
+/// A queue without its entries.
+#[derive(Clone, Copy, Debug, PartialEq, Eq)]
+pub struct QueueDef {
+    pub name: Name,
+    pub order: Order,
+    /// Whether a message may be placed on top.
+    pub top: bool,
+    /// Whether a message may be placed before another.
+    pub before: bool,
+    /// The quality of a message that asks for the default.
+    pub qos: Qos,
+    pub retries: u32,
+    /// In seconds.
+    pub delay: u64,
+}
+
+/// What an entry becomes; all else of it stays.
+#[derive(Clone, Copy, Debug, PartialEq, Eq)]
+pub struct Change {
+    pub id: MsgId,
+    pub queue: u16,
+    pub label: Label,
+    pub mark: Mark,
+    pub priority: u8,
+    pub available: u64,
+    pub expiration: Option<u64>,
+    pub retries: u32,
+}
+
+/// One change of a space, in which a queue goes by its index.
+#[derive(Debug, PartialEq, Eq, Drop)]
+pub enum SpaceMove {
+    Insert(Entry),
+    Remove(MsgId),
+    Replace(Change),
+    /// Makes the queue of that index, or changes it and keeps its entries.
+    PutQueue(u16, QueueDef),
+    /// Removes a queue that has no entries.
+    DropQueue(u16),
+}
