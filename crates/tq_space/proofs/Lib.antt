@@ -1,0 +1,5 @@
+pub mod Places
+pub mod Keys
+pub mod Inserted
+pub mod Removed
+pub mod Shelves

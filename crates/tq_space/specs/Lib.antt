@@ -1,0 +1,5 @@
+pub mod Slots
+pub mod Shelf
+pub mod State
+pub mod Plain
+pub mod Applied

@@ -1,0 +1,5 @@
+/// Placeholder
+#[derive(Drop)]
+pub struct Space {
+    n: u8,
+}
