@@ -11,6 +11,7 @@ use Rattle.tq_model.specs.Moves.{IndexedQueue, item_of, queue_of}
 use Rattle.tq_space.specs.declared.shelf.HeldQueue.{HeldQueue}
 use Rattle.tq_space.specs.declared.shelf.Shelf.TheInside.{Inside}
 use Rattle.tq_space.specs.State.{ShelfValue}
+use Rattle.tq_space.specs.Grown.{HasRoomIn}
 use Rattle.tq_space.specs.Slots.{slot_at, item_at, slot_count, IsPlainSlot}
 
 abbrev pub indexed_at : List (Option Entry) → HeldQueue → IndexedQueue
@@ -25,9 +26,6 @@ pub record IsListed (slots : List (Option Entry)) (queues : List HeldQueue) : Ty
   pub keys : (key : ℕ) → key_count key queues ≡ slot_count (slot_at slots key)
   pub indices : (index : ℕ) → count_by (λ q. q.index == index) queues ≤ 1
   pub plain : (key : ℕ) → IsPlainSlot (slot_at slots key)
-
-abbrev pub HasRoomIn : ℕ → List HeldQueue → Type 0
-HasRoomIn ready queues = All (λ q. vec_len q.keys + ready ≤ vec_capacity q.keys) queues
 
 pub record IsShelf (s : Inside) : Type 0 where
   pub listed : IsListed s.entries.slots s.queues.items

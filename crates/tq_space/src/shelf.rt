@@ -1,17 +1,20 @@
-ghost use Rattle.std.specs.Prelude.{true, ◌≡◌, ℕ, ◌+◌, ◌-◌, ◌<◌, ◌≤◌, ◌==◌, [], ◌∷◌, length, map, IsTrue, IfOk, OnOk, OnErr, IfSome, IfNone, MatchOption, option_copied, option_map, is_some, Some, None, vec_len, vec_capacity};
+ghost use Rattle.std.specs.Prelude.{true, false, ◌≡◌, ℕ, ◌+◌, ◌-◌, ◌<◌, ◌≤◌, ◌==◌, [], ◌∷◌, length, map, IsTrue, IfOk, OnOk, OnErr, IfSome, IfNone, MatchOption, option_copied, option_map, is_some, Some, None, vec_len, vec_capacity};
 ghost use Rattle.std.specs.List.{position, position_or_len, find, list_any, insert};
 ghost use Rattle.std.specs.Str.{bytes_eq};
-ghost use Rattle.tq_model.specs.Space.{same_id, has_id, is_named, stands_before, name_before};
-ghost use Rattle.tq_model.specs.Moves.{item_of, item_inserted, item_removed, item_with_id, queue_put, has_index, indexed_holds};
-ghost use Rattle.tq_model.specs.DequeueStep.{can_answer};
+ghost use Rattle.tq_model.specs.Space.{is_eligible, is_free, is_past, same_id, has_id, is_named, stands_before, name_before};
+ghost use Rattle.tq_model.specs.Moves.{holding_of, queue_added, item_of, item_inserted, item_removed, item_with_id, queue_put, has_index, indexed_holds};
+ghost use Rattle.tq_model.specs.DequeueStep.{can_answer, is_candidate, has_asked_id, has_asked_corr};
+ghost use Rattle.tq_space.specs.Reads.{indexed_named, HasDistinctIndices};
 ghost use Rattle.tq_space.specs.Plain.{IsPlainEntry, HasNoExpirations};
+ghost use Rattle.tq_space.specs.Grown.{IsGrown, AreGrown, HasRoomIn};
+ghost use Rattle.slab.specs.Slab.{HasRoomFor};
 ghost use Rattle.tq_space.specs.Slots.{slot_test, slot_at, label_before};
 
 use slab::Slab;
 use std::alloc::{AllocError, Global};
 use std::marker::Model;
 use tq_model::{DequeueCall, QueueDef};
-use tq_types::{Entry, Label, MsgId, Name, Order, compare};
+use tq_types::{CorrId, Entry, Label, Mark, MsgId, Name, Order, Qos, compare};
 
 /// A queue, with the keys of its entries in the order of their labels.
 #[derive(Debug, Drop)]
@@ -28,6 +31,7 @@ pub(crate) struct Shelf {
     entries: Slab<Entry>,
     /// For how many more entries or queues there is room.
     ready: usize,
+    alloc: Global,
 }
 
 impl Model for Shelf {
@@ -121,7 +125,143 @@ fn put_key(keys: &mut Vec<usize>, place: usize, key: usize)
     let _ = keys.insert(place, key);
 }
 
+/// Puts a queue at a place for which there is room.
+fn put_queue(queues: &mut Vec<HeldQueue>, place: usize, queue: HeldQueue)
+    requires within { place ≤ vec_len queues.old }
+    requires room { vec_len queues.old < vec_capacity queues.old }
+    ensures items { queues.new.items ≡ insert queues.old.items place queue }
+    ensures len { vec_len queues.new ≡ vec_len queues.old + 1 }
+    ensures capacity { vec_capacity queues.old ≤ vec_capacity queues.new }
+{
+    let _ = queues.insert(place, queue);
+}
+
+/// The first place of a queue before which the name comes.
+fn place_after_name(queues: &[HeldQueue], name: &Name) -> Option<usize>
+    ensures { result ≡ position (λ q. name_before name.now q.def.name) queues.now }
+{
+    queues.iter().position(|q| name.cmp(&q.def.name).is_lt())
+}
+
+/// The same, or the end.
+fn place_by_name(queues: &[HeldQueue], name: &Name) -> usize
+    ensures { result ≡ position_or_len (λ q. name_before name.now q.def.name) queues.now }
+{
+    place_after_name(queues, name).unwrap_or(queues.len())
+}
+
+/// Makes room for so many more keys.
+fn reserve_in(queue: &mut HeldQueue, more: usize) -> Result<(), AllocError>
+    ensures grown { IsGrown queue.old queue.new }
+    ensures ok { OnOk result (vec_len queue.new.keys + more ≤ vec_capacity queue.new.keys) }
+{
+    queue.keys.reserve(more)
+}
+
+/// Makes room for so many more keys in each queue.
+fn reserve_keys(queues: &mut [HeldQueue], more: usize) -> Result<(), AllocError>
+    ensures grown { AreGrown queues.old queues.new }
+    ensures ok { OnOk result (HasRoomIn more queues.new) }
+{
+    for at in 0..queues.len() {
+        reserve_in(&mut queues[at], more)?;
+    }
+    Ok(())
+}
+
+/// Makes room for so many more entries and queues.
+fn reserve_all(queues: &mut Vec<HeldQueue>, entries: &mut Slab<Entry>, more: usize) -> Result<(), AllocError>
+    ensures slots { entries.new.slots ≡ entries.old.slots }
+    ensures capacity { entries.old.capacity ≤ entries.new.capacity }
+    ensures grown { AreGrown queues.old.items queues.new.items }
+    ensures len { vec_len queues.new ≡ vec_len queues.old }
+    ensures queue_capacity { vec_capacity queues.old ≤ vec_capacity queues.new }
+    ensures entry_room { OnOk result (HasRoomFor entries.new more) }
+    ensures key_room { OnOk result (HasRoomIn more queues.new.items) }
+    ensures queue_room { OnOk result (vec_len queues.new + more ≤ vec_capacity queues.new) }
+{
+    entries.reserve(more)?;
+    queues.reserve(more)?;
+    reserve_keys(queues, more)
+}
+
+/// Whether there is an entry that answers a dequeue.
+fn slot_answers(slot: Option<&Entry>, call: &DequeueCall, clock: u64) -> bool
+    ensures { result ≡ slot_test (can_answer call.now clock) (option_copied slot.entry) }
+{
+    match slot {
+        Some(entry) => fits(entry, call) && eligible(entry, clock),
+        None => false,
+    }
+}
+
+fn fits(entry: &Entry, call: &DequeueCall) -> bool
+    ensures { result ≡ is_candidate call.now (item_of entry.now) }
+{
+    fits_id(call.id, &entry.message.id) && fits_corr(call.corr, entry.message.corr)
+}
+
+fn fits_id(asked: Option<MsgId>, id: &MsgId) -> bool
+    ensures { result ≡ has_asked_id asked id.now }
+{
+    match asked {
+        None => true,
+        Some(asked) => is_same_id(id, &asked),
+    }
+}
+
+fn fits_corr(asked: Option<CorrId>, corr: Option<CorrId>) -> bool
+    ensures { result ≡ has_asked_corr asked corr }
+{
+    match (asked, corr) {
+        (None, _) => true,
+        (Some(_), None) => false,
+        (Some(asked), Some(corr)) => corr.bytes.as_slice() == asked.bytes.as_slice(),
+    }
+}
+
+/// Whether an entry is free, available and not expired.
+fn eligible(entry: &Entry, clock: u64) -> bool
+    ensures { result ≡ is_eligible clock (item_of entry.now) }
+{
+    free(entry.mark) && entry.message.available <= clock && !past(clock, entry.message.expiration)
+}
+
+fn free(mark: Mark) -> bool
+    ensures { result ≡ is_free (holding_of mark) }
+{
+    match mark {
+        Mark::Free => true,
+        Mark::Adding(_) | Mark::Taking(_) => false,
+    }
+}
+
+fn past(clock: u64, at: Option<u64>) -> bool
+    ensures { result ≡ is_past clock at }
+{
+    match at {
+        None => false,
+        Some(at) => at <= clock,
+    }
+}
+
+/// The first place of a key whose entry answers a dequeue.
+fn place_answering(keys: &[usize], entries: &Slab<Entry>, call: &DequeueCall, clock: u64) -> Option<usize>
+    ensures { result ≡ position (λ k. slot_test (can_answer call.now clock) (slot_at entries.now.slots k)) keys.now }
+{
+    keys.iter().position(|key| slot_answers(entries.get(*key), call, clock))
+}
+
+/// What is read of a queue that is named.
+#[derive(Clone, Copy)]
+pub(crate) struct Named {
+    pub(crate) index: u16,
+    pub(crate) qos: Qos,
+}
+
 impl Shelf {
+    ghost use Rattle.tq_space.specs.Reading.{named_of, answer_in};
+
     /// No queues and no entries.
     pub(crate) fn new(alloc: Global) -> Shelf
         ensures queues { result.queues ≡ [] }
@@ -131,6 +271,7 @@ impl Shelf {
             queues: Vec::new(alloc),
             entries: Slab::new(alloc),
             ready: 0,
+            alloc,
         }
     }
 
@@ -159,13 +300,78 @@ impl Shelf {
         ensures ready { self.new.ready ≡ self.old.ready }
         ensures entry { option_map item_of result ≡ item_with_id id.now self.old.queues }
     {
-        if let Some(at) = place_holding(&self.queues, &self.entries, id) {
-            let queue = &mut self.queues[at];
-            if let Some(place) = place_of_id(&queue.keys, &self.entries, id) {
-                let key = queue.keys.remove(place);
-                return self.entries.try_remove(key);
-            }
+        let Some(at) = place_holding(&self.queues, &self.entries, id) else {
+            return None;
+        };
+        let queue = &mut self.queues[at];
+        let Some(place) = place_of_id(&queue.keys, &self.entries, id) else {
+            unreachable!()
+        };
+        let key = queue.keys.remove(place);
+        self.entries.try_remove(key)
+    }
+
+    /// Makes room for so many more entries or queues. After an `Err` the queues are as they were,
+    /// and so is what there was room for.
+    pub(crate) fn reserve(&mut self, more: usize) -> Result<(), AllocError>
+        ensures queues { self.new.queues ≡ self.old.queues }
+        ensures ready { OnOk result (more ≤ self.new.ready) }
+        ensures err { OnErr result (self.new.ready ≡ self.old.ready) }
+    {
+        if more <= self.ready {
+            return Ok(());
         }
-        None
+        reserve_all(&mut self.queues, &mut self.entries, more)?;
+        self.ready = more;
+        Ok(())
+    }
+
+    /// Makes a queue of an index that is not there; nothing more is ready then.
+    pub(crate) fn add_queue(&mut self, index: u16, def: &QueueDef)
+        requires room { 1 ≤ self.old.ready }
+        requires new { list_any (has_index index) self.old.queues ≡ false }
+        ensures queues { self.new.queues ≡ queue_added index def.now self.old.queues }
+        ensures ready { self.new.ready ≡ 0 }
+    {
+        let place = place_by_name(&self.queues, &def.name);
+        let keys = Vec::new(self.alloc);
+        let queue = HeldQueue {
+            index,
+            def: *def,
+            keys,
+        };
+        put_queue(&mut self.queues, place, queue);
+        self.ready = 0;
+    }
+
+    /// The queue of that name.
+    pub(crate) fn named(&self, name: &Name) -> Option<Named>
+        ensures named { result ≡ option_map named_of (find (indexed_named name.now) self.now.queues) }
+        ensures indices { HasDistinctIndices self.now.queues }
+        ensures lasting { HasNoExpirations self.now.queues }
+    {
+        let at = place_named(&self.queues, name)?;
+        let queue = &self.queues[at];
+        Some(Named {
+            index: queue.index,
+            qos: queue.def.qos,
+        })
+    }
+
+    /// The first entry that answers a dequeue of its queue, if there is one.
+    pub(crate) fn answering(&self, call: &DequeueCall, clock: u64) -> Option<&Entry>
+        ensures entry { option_map item_of (option_copied result) ≡ answer_in call.now clock (find (indexed_named call.now.queue) self.now.queues) }
+    {
+        let at = place_named(&self.queues, &call.queue)?;
+        let queue = &self.queues[at];
+        let place = place_answering(&queue.keys, &self.entries, call, clock)?;
+        self.entries.get(queue.keys[place])
+    }
+
+    /// Whether a queue has that index.
+    pub(crate) fn holds_index(&self, index: u16) -> bool
+        ensures { result ≡ list_any (has_index index) self.now.queues }
+    {
+        place_indexed(&self.queues, index).is_some()
     }
 }
