@@ -63,6 +63,14 @@ dequeue_step before call clock =
     let found = found_in call clock queue in
     record { space = taken_from s call found; answer = dequeue_answer call queue found }
 
--- no refusal comes exactly where this is an entry
-abbrev pub dequeue_found : Space → DequeueCall → ℕ → Option Item
-dequeue_found before call clock = let s = purged clock before in found_in call clock (queue_named call.queue s.queues)
+-- The refusal, where no entry answers the call.
+abbrev pub refusal_at : Option Queue → Option Item → Option CallAnswer
+refusal_at None found = Some BadQueue
+refusal_at (Some queue) None = Some NoMessage
+refusal_at (Some queue) (Some item) = None
+
+abbrev pub dequeue_refusal : Space → DequeueCall → ℕ → Option CallAnswer
+dequeue_refusal before call clock =
+    let s = purged clock before in
+    let queue = queue_named call.queue s.queues in
+    refusal_at queue (found_in call clock queue)

@@ -44,13 +44,21 @@ need_of (Replace c) = 1
 need_of (PutQueue index d) = 1
 need_of (DropQueue index) = 0
 
--- the room is enough; nothing comes behind a queue that is put
+-- the room that is left after a move
+abbrev pub ready_after : SpaceMove → ℕ → ℕ
+ready_after (Insert e) ready = ready - 1
+ready_after (Remove id) ready = ready
+ready_after (Replace c) ready = ready - 1
+ready_after (PutQueue index d) ready = 0
+ready_after (DropQueue index) ready = ready
+
+-- the room is enough for the moves; a queue that is put leaves none
 abbrev pub IsEnough : ℕ → List SpaceMove → Type 0
 IsEnough ready [] = Unit {0}
 IsEnough ready (Insert e ∷ moves) = (1 ≤ ready) × IsEnough (ready - 1) moves
 IsEnough ready (Remove id ∷ moves) = IsEnough ready moves
 IsEnough ready (Replace c ∷ moves) = (1 ≤ ready) × IsEnough (ready - 1) moves
-IsEnough ready (PutQueue index d ∷ moves) = (1 ≤ ready) × (moves ≡ [])
+IsEnough ready (PutQueue index d ∷ moves) = (1 ≤ ready) × IsEnough 0 moves
 IsEnough ready (DropQueue index ∷ moves) = IsEnough ready moves
 
 -- a move that can be made now: its queue is there, and what it leaves is within the limits of the space's creation
@@ -60,7 +68,7 @@ CanMove (Insert e) s =
     × (pages_held (space_of s) + pages_at e.message.qos (length e.message.body) ≤ s.limits.pages)
 CanMove (Remove id) s = Unit {0}
 CanMove (Replace c) s = ⊥
-CanMove (PutQueue index d) s = Unit {0}
+CanMove (PutQueue index d) s = list_any (has_index index) s.queues ≡ false
 CanMove (DropQueue index) s = ⊥
 
 -- the moves can be made one after another

@@ -350,7 +350,9 @@ impl Shelf {
         ensures indices { HasDistinctIndices self.now.queues }
         ensures lasting { HasNoExpirations self.now.queues }
     {
-        let at = place_named(&self.queues, name)?;
+        let Some(at) = place_named(&self.queues, name) else {
+            return None;
+        };
         let queue = &self.queues[at];
         Some(Named {
             index: queue.index,
@@ -362,10 +364,15 @@ impl Shelf {
     pub(crate) fn answering(&self, call: &DequeueCall, clock: u64) -> Option<&Entry>
         ensures entry { option_map item_of (option_copied result) ≡ answer_in call.now clock (find (indexed_named call.now.queue) self.now.queues) }
     {
-        let at = place_named(&self.queues, &call.queue)?;
+        let Some(at) = place_named(&self.queues, &call.queue) else {
+            return None;
+        };
         let queue = &self.queues[at];
-        let place = place_answering(&queue.keys, &self.entries, call, clock)?;
-        self.entries.get(queue.keys[place])
+        let Some(place) = place_answering(&queue.keys, &self.entries, call, clock) else {
+            return None;
+        };
+        let key = queue.keys[place];
+        self.entries.get(key)
     }
 
     /// Whether a queue has that index.
