@@ -6,3 +6,4 @@ pub mod Shelves
 pub mod Found
 pub mod Counts
 pub mod Steps
+pub mod Enough

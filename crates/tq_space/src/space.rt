@@ -1,5 +1,5 @@
-ghost use Rattle.std.specs.Prelude.{◌≡◌, ℕ, true, false, ◌+◌, ◌-◌, option_copied, option_to_list, if◌then◌else◌, ◌≤◌, [], ◌∷◌, length, IfOk, OnOk, OnErr, MatchOption, Some, None, option_map};
-ghost use Rattle.tq_model.specs.Space.{new_space, overhead_pages};
+ghost use Rattle.std.specs.Prelude.{◌≡◌, ℕ, true, false, ◌+◌, ◌-◌, ◌*◌, option_copied, option_to_list, if◌then◌else◌, ◌≤◌, [], ◌∷◌, length, IfOk, OnOk, OnErr, MatchOption, Some, None, option_map};
+ghost use Rattle.tq_model.specs.Space.{new_space, overhead_pages, divided_up};
 ghost use Rattle.tq_model.specs.Moves.{item_of, space_of, purged_of, moved, moved_by, has_index};
 ghost use Rattle.std.specs.List.{find, list_any};
 ghost use Rattle.tq_space.specs.Reads.{indexed_named};
@@ -53,16 +53,20 @@ impl Model for Space {
     ghost invariant = { IsSpace };
 }
 
+/// The pages of a space with so many queues, messages and transactions that are not for messages.
+fn overhead_for(queues: u16, messages: u16, transactions: u16) -> u64
+    ensures { result ≡ 1 + 2 * (divided_up (64 + 512 * queues + 64 * messages + 160 * transactions) 1024 + (16 + divided_up (72 * messages) 1024)) }
+{
+    let slots = 64 + 512 * u64::from(queues) + 64 * u64::from(messages) + 160 * u64::from(transactions);
+    let log = 72 * u64::from(messages);
+    1 + 2 * ((slots + 1023) / 1024 + (16 + (log + 1023) / 1024))
+}
+
 /// The pages that are not for messages.
 fn overhead_of(shape: &Shape) -> u64
     ensures { result ≡ overhead_pages shape.now }
 {
-    let queues = 512 * u64::from(shape.queues);
-    let messages = u64::from(shape.messages);
-    let transactions = 160 * u64::from(shape.transactions);
-    let slots = (64 + queues + 64 * messages + transactions + 1023) / 1024;
-    let log = 16 + (72 * messages + 1023) / 1024;
-    1 + 2 * (slots + log)
+    overhead_for(shape.queues, shape.messages, shape.transactions)
 }
 
 /// The pages of a message with a body of `n` bytes.
