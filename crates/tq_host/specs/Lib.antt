@@ -1,3 +1,13 @@
 pub mod View
 pub mod Calls
 pub mod Within
+pub mod Disk
+pub mod Events
+pub mod Counts
+pub mod Account
+pub mod Kinds
+pub mod Plan
+pub mod Outside
+pub mod Memory
+pub mod Fused
+pub mod Lawful

@@ -2,9 +2,25 @@ ghost use Rattle.std.specs.Prelude.{◌≡◌, ◌<◌, ◌≤◌, ◌+◌, List
 ghost use Rattle.tq_host.specs.View.{Told, View, IsLawful};
 ghost use Rattle.tq_host.specs.Calls.{StandsAt, IsWritten, IsTorn, IsResized, IsPulled, Elapses, IsDeviceCall, IsStill, Changes, Syncs, IsStreamCall, Takes, Gives, ElapsesGiving};
 
+use thiserror::Error;
+
 /// A call of the outside failed.
-#[derive(Clone, Copy, Debug, PartialEq, Eq)]
+#[derive(Clone, Copy, Debug, PartialEq, Eq, Error)]
+#[error("a call of the outside failed")]
 pub struct Failed;
+
+/// The outside failed under a call of a layer above it, whose device count rose.
+#[derive(Clone, Copy, Debug, PartialEq, Eq, Error)]
+#[error("the outside failed")]
+pub struct Device;
+
+impl From<Failed> for Device {
+    ghost from_gives = { λ _ e. e ≡ record {} };
+
+    fn from(_failed: Failed) -> Device {
+        Device
+    }
+}
 
 /// The outside of the program: eight devices, an input and an output, under one clock.
 ///

@@ -5,14 +5,18 @@
 mod answer;
 mod calls;
 mod grammar;
+mod machine;
 mod request;
 mod space;
+#[cfg(test)]
+mod tests;
 
 pub use answer::{Answer, Capacity, DeviceAnswer, Field, Identity, Listing, Readiness};
 pub use calls::{
-    CallAnswer, Delivery, DequeueAsk, DequeueCall, DequeueWords, EnqueueAsk, EnqueueCall, EnqueueWords,
-    Flag, Flags, Place,
+    CallAnswer, Delivery, DequeueAsk, DequeueCall, DequeueWords, EnqueueAsk, EnqueueCall,
+    EnqueueWords, Flag, Flags, Place,
 };
 pub use grammar::{Key, Kind, Value, Verb};
+pub use machine::Machine;
 pub use request::{Creation, DeviceRequest, Request};
 pub use space::{Change, QueueDef, Shape, SpaceMove};

@@ -22,6 +22,7 @@ number-bytes : (x : ℕ) (rest : List ℕ) → x < 2 ^ 32 → big_number 4 (big_
 number-bytes x rest fits = omega arith
 
 pub back : (id : MsgId) → id.site < 2 ^ 32 → id.space < 2 ^ 32 → id.epoch < 2 ^ 32 → id.number < 2 ^ 32 → id_at (id_bytes id) ≡ id
+unfolding id_at id_bytes
 back id site_fits space_fits epoch_fits number_fits =
     let site = number-bytes id.site [] site_fits in
     let space = number-bytes id.space [] space_fits in
@@ -30,6 +31,7 @@ back id site_fits space_fits epoch_fits number_fits =
     λ i. record { site = site i; space = space i; epoch = epoch i; number = number i }
 
 pub zeros : (id : MsgId) → HasZerosAfter 16 (id_bytes id)
+unfolding id_bytes
 zeros id at from below =
     let inside : at - 16 < 16 = omega arith in
     get_or-append_right
@@ -57,6 +59,7 @@ module _ (bytes : List ℕ) (long : length bytes ≡ 32) (fits : (i : ℕ) → g
 
   -- the 32 bytes are those of the identifier at them
   pub forth : HasZerosAfter 16 bytes → id_bytes (id_at bytes) ≡ bytes
+  unfolding id_at id_bytes
   forth end =
       let rest : drop 16 bytes ≡ replicate 16 0 = ext_get_or 0 (drop 16 bytes) (replicate 16 0)
       (omega (arith, length-drop 16 bytes, length-replicate {A = ℕ} 16 0))

@@ -1,11 +1,12 @@
 -- The label order is a total order, and never takes two messages for one.
-use Rattle.std.proofs.Common.{◌≡◌, ℕ, Bool, true, false, Option, Some, None, List, [], ◌∷◌, Ordering, Less, Equal, Greater, refl, sym, ap, ◌∙◌}
+use Rattle.std.proofs.Common.{◌≡◌, ℕ, Bool, true, false, Option, Some, None, List, [], ◌∷◌, Ordering, Less, Equal, Greater, refl, sym, ap, ◌∙◌, ◌++◌, ◌-◌, length, arith, length-append}
 use Rattle.std.specs.Ordering.{nat_cmp, ordering_then, ordering_reverse}
 use Rattle.std.specs.Cmp.{IsTotalOrder}
 use Rattle.std.specs.Cmp.Lexicographic.{slice_cmp}
-use Rattle.std.proofs.lemmas.Cmp.{ranked, nat_cmp_total, on_total, then_total, back_total, lists_total}
+use Rattle.std.proofs.lemmas.Cmp.{ranked, nat_cmp_total, on_total, then_total, back_total, lists_total, tied_itself}
+use Rattle.std.proofs.lemmas.List.{get_or_push}
 use Rattle.tq_types.specs.Label.{arrival_cmp, none_last_cmp, criterion_cmp, criteria_cmp, last_cmp, cmp_by_test, root_cmp, path_cmp, label_cmp}
-use Rattle.tq_types.specs.OwnArrival.{own_arrival}
+use Rattle.tq_types.specs.Placed.{own_arrival, placed_before}
 use Rattle.tq_types.specs.declared.identifiers.Arrival.{Arrival}
 use Rattle.tq_types.specs.declared.orders.Criterion.{Criterion}
 use Rattle.tq_types.specs.declared.orders.Criterion.TheVariants.{Priority, Time, Expiration}
@@ -126,6 +127,7 @@ path_total =
 
 -- the label order of any queue is total: turned round it gives the other answer, it chains, and labels that it does not tell apart are alike to every third
 pub label_total : (order : Order) → IsTotalOrder (label_cmp order)
+unfolding label_cmp
 label_total order = then_total (on_total (λ l. l.root) (root_total order)) (on_total (λ l. l.path) path_total)
 
 -- ---- what the order does not tell apart
@@ -176,6 +178,7 @@ root-equal order a b h =
 -- labels that the order does not tell apart have roots of one arrival, both on top or neither, and one path
 pub label-equal : (order : Order) (a b : Label) → label_cmp order a b ≡ Equal
     → (a.root.top ≡ b.root.top) × (a.root.arrival ≡ b.root.arrival) × (a.path ≡ b.path)
+unfolding label_cmp
 label-equal order a b h =
     let parts = then-equal (root_cmp order a.root b.root) (path_cmp a.path b.path) h in
     let root = root-equal order a.root b.root parts.0 in
@@ -184,3 +187,20 @@ label-equal order a b h =
 -- so they place one message
 pub own-equal : (order : Order) (a b : Label) → label_cmp order a b ≡ Equal → own_arrival a ≡ own_arrival b
 own-equal order a b h = let same = label-equal order a b h in cc
+
+-- ---- a message that is placed before another
+
+longer-first : (path : List Arrival) (a : Arrival) → path_cmp (path ++ a ∷ []) path ≡ Less
+longer-first [] a = refl
+longer-first (x ∷ path) a = ap (λ o. ordering_then o (path_cmp (path ++ a ∷ []) path)) (tied_itself arrival_total x) ∙ longer-first path a
+
+pub placed-first : (order : Order) (label : Label) (a : Arrival) → label_cmp order (placed_before label a) label ≡ Less
+unfolding label_cmp
+placed-first order label a =
+    ap (λ o. ordering_then o (path_cmp (label.path ++ a ∷ []) label.path)) (tied_itself (root_total order) label.root)
+    ∙ longer-first label.path a
+
+pub own_arrival-placed : (label : Label) (a : Arrival) → own_arrival (placed_before label a) ≡ a
+own_arrival-placed label a =
+    let long : length label.path ≡ length (label.path ++ a ∷ []) - 1 = omega (arith, length-append label.path (a ∷ [])) in
+    get_or_push label.path a label.root.arrival (length (label.path ++ a ∷ []) - 1) long

@@ -64,5 +64,5 @@ path_cmp (x ∷ xs) [] = Less
 path_cmp (x ∷ xs) (y ∷ ys) = ordering_then (arrival_cmp x y) (path_cmp xs ys)
 
 -- the roots, and where they are alike the paths
-abbrev pub label_cmp : Order → Label → Label → Ordering
+unfoldable pub label_cmp : Order → Label → Label → Ordering
 label_cmp order a b = ordering_then (root_cmp order a.root b.root) (path_cmp a.path b.path)

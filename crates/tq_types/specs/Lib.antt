@@ -8,4 +8,4 @@ pub mod OrderValue
 pub mod XId
 pub mod BadXId
 pub mod Label
-pub mod OwnArrival
+pub mod Placed

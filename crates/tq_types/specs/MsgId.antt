@@ -4,11 +4,11 @@ use Rattle.byteorder.specs.Endian.{big_bytes, big_number}
 use Rattle.tq_types.specs.declared.identifiers.MsgId.{MsgId}
 
 -- four numbers of 4 bytes, the highest byte first, and 16 zero bytes
-abbrev pub id_bytes : MsgId → List ℕ
+unfoldable pub id_bytes : MsgId → List ℕ
 id_bytes id = big_bytes 4 id.site ++ big_bytes 4 id.space ++ big_bytes 4 id.epoch ++ big_bytes 4 id.number ++ replicate 16 0
 
 -- the identifier whose four numbers begin the bytes
-abbrev pub id_at : List ℕ → MsgId
+unfoldable pub id_at : List ℕ → MsgId
 id_at bytes =
     record {
       site = big_number 4 bytes;

@@ -1,6 +1,7 @@
-ghost use Rattle.std.specs.Prelude.{◌≡◌, ◌≢◌};
+ghost use Rattle.std.specs.Prelude.{◌≡◌, ◌≢◌, ◌↔◌, length, IsNone, IfSome};
 ghost use Rattle.tq_types.specs.Label.{label_cmp, root_cmp, criteria_cmp, criterion_cmp, expiration_cmp, path_cmp, arrival_cmp, last_cmp};
-ghost use Rattle.tq_types.specs.OwnArrival.{own_arrival};
+ghost use Rattle.tq_types.specs.Placed.{own_arrival, placed_before};
+ghost use Rattle.tq_types.specs.declared.orders.Order.{Order};
 
 use crate::{Arrival, Criterion, Last, Order, Path};
 use std::cmp::Ordering;
@@ -32,6 +33,21 @@ impl Label {
             Some(arrival) => *arrival,
             None => self.root.arrival,
         }
+    }
+
+    /// The label of a message that is placed before this one: `None` exactly where the path has 16
+    /// arrivals already.
+    pub fn before(&self, arrival: Arrival) -> Option<Label>
+        ensures full { IsNone result ↔ (length self.now.path ≡ 16) }
+        ensures label { IfSome result (λ label. label ≡ placed_before self.now arrival) }
+        ensures own { IfSome result (λ label. own_arrival label ≡ arrival) }
+        ensures first { IfSome result (λ label. (order : Order) → label_cmp order label self.now ≡ Ordering.Less) }
+    {
+        let path = self.path.with(arrival)?;
+        Some(Label {
+            root: self.root,
+            path,
+        })
     }
 }
 

@@ -123,10 +123,7 @@ fn on_top(number: u32) -> Label {
 }
 
 fn before(label: &Label, number: u32) -> Result<Label, Fail> {
-    Ok(Label {
-        root: label.root,
-        path: label.path.with(arrival(number)).ok_or("the path is full")?,
-    })
+    Ok(label.before(arrival(number)).ok_or("the path is full")?)
 }
 
 #[test]
@@ -205,7 +202,7 @@ fn depth(rt: HostRuntime) -> Result<(), Fail> {
         label = next;
     }
     assert_eq!(rt; label.path.len(), 16);
-    assert!(rt; label.path.with(arrival(17)).is_none());
+    assert!(rt; label.before(arrival(17)).is_none());
     Ok(())
 }
 

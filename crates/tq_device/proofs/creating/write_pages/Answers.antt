@@ -1,0 +1,26 @@
+use Rattle.std.proofs.Common.{◌∙◌, sym, arith}
+use Rattle.tq_host.proofs.Resting.{rest_on}
+use Rattle.tq_host.proofs.Within.{in_a_row}
+use Rattle.tq_device.specs.Content.{IsAnyStep}
+use Rattle.tq_device.specs.Made.{IsShort}
+use Rattle.tq_device.proofs.Making.{any_steps, made_more}
+use Rattle.tq_device.proofs.creating.write_pages.Goals as goal
+
+pub returns-in_err-write_page-clause-stop : goal.returns-in_err-write_page-clause-stop
+returns-in_err-write_page-clause-stop g c = λ short.
+    let so_far = c.loop-number.invariant.stop short in
+    in_a_row c.args.dev IsAnyStep any_steps IsShort _ _ _ so_far (c.write_page.ensures.stop (λ d may. (so_far.own d may).now))
+
+pub loop-number-preserved : goal.loop-number-preserved
+loop-number-preserved g c =
+    let inv = c.loop-number.invariant in
+    let page = c.in_ok-write_page.ensures in
+    record {
+      made = λ t. made_more _ _ _ c.page_start.result.now _ _ c.loop-number.number (inv.made t) c.page_start.ensures.bytes (page.done t);
+      size = λ t. (page.done t).size ∙ inv.size t;
+      stop = λ short.
+          let so_far = inv.stop short in
+          in_a_row c.args.dev IsAnyStep any_steps IsShort _ _ _ so_far (c.write_page.ensures.stop (λ d may. (so_far.own d may).now));
+      rest = rest_on c.args.dev _ _ _ inv.rest c.write_page.ensures.rest;
+      faults = page.cause.ok ∙ inv.faults;
+    }

@@ -1,0 +1,25 @@
+use Rattle.std.proofs.Common.{◌≡◌, ◌≤◌, ◌∙◌, sym, ap, subst, List, ℕ, length, get_or, arith}
+use Rattle.tq_host.specs.Calls.{StandsAt}
+use Rattle.tq_model.specs.Reading.{chosen, table_a, table_b, journal_a, journal_b}
+use Rattle.tq_device.proofs.Parts.{reading_from, found_is}
+use Rattle.tq_device.specs.Parts.{HasJournal}
+use Rattle.tq_device.proofs.loading.load_parts.Goals as goal
+
+pub returns-clause-found : goal.returns-clause-found
+returns-clause-found g c = λ t.
+    let image = (g.H.Host.view c.args.host.now).reads c.args.dev in
+    let header = c.read_at.new.into in
+    let table = c.read_at-2.new.into in
+    let journal = c.read_at-3.new.into in
+    let same = c.in_ok-read_at.ensures.still.reads c.args.dev in
+    let same_2 = c.in_ok-read_at-2.ensures.still.reads c.args.dev ∙ same in
+    let stands_h : StandsAt 0 header image = c.in_ok-read_at.ensures.bytes t in
+    let stands_t : StandsAt (chosen (get_or header 512 0) table_a table_b) table image =
+    subst (λ (b : List ℕ). StandsAt (chosen (get_or header 512 0) table_a table_b) table b) same
+    (subst (λ at. StandsAt at table ((g.H.Host.view c.read_at.new.self).reads c.args.dev)) c.chosen.ensures (c.in_ok-read_at-2.ensures.bytes t)) in
+    let stands_j : StandsAt (chosen (get_or header 513 0) journal_a journal_b) journal image =
+    subst (λ (b : List ℕ). StandsAt (chosen (get_or header 513 0) journal_a journal_b) journal b) same_2
+    (subst (λ at. StandsAt at journal ((g.H.Host.view c.read_at-2.new.self).reads c.args.dev)) c.chosen-2.ensures (c.in_ok-read_at-3.ensures.bytes t)) in
+    let is = reading_from header table journal image (omega arith) (omega arith) (omega arith) (c.requires.long t) stands_h stands_t stands_j in
+    found_is c.judge.result image (c.judge.ensures.reading ∙ sym is)
+    (subst (λ n. HasJournal n c.judge.result) (sym (stands_h 513 (omega arith))) c.judge.ensures.selector)

@@ -1,0 +1,4 @@
+pub mod Content
+pub mod Made
+pub mod Parts
+pub mod Raised

@@ -1,0 +1,45 @@
+ghost use Rattle.std.specs.Prelude.{◌≡◌, ◌<◌, ◌≤◌, List, ℕ, IfOk, length};
+ghost use Rattle.tq_host.specs.Calls.{HasCause, IsStill};
+ghost use Rattle.tq_host.specs.Within.{KeepsRest, Within};
+ghost use Rattle.tq_device.specs.Content.{IsFoundOn, IsAny, IsSameImage};
+
+use crate::Found;
+use crate::bytes::zeros;
+use crate::judging::judge;
+use crate::layout::{HEADER_BYTES, JOURNAL_A, JOURNAL_B, TABLE_A, TABLE_B, chosen};
+use tq_host::{Failed, Host};
+
+/// What the bytes of the device are found to be; every content is judged, and nothing is written.
+pub fn load<H: Host>(host: &mut H, dev: u8) -> Result<Found, Failed>
+    requires { dev < 8 }
+    ensures found { IfOk result (λ f. H.tells.reads → IsFoundOn f ((H.view host.old).reads dev)) }
+    ensures still { IsStill (H.view host.old) (H.view host.new) }
+    ensures stop { Within dev IsSameImage IsAny (H.view host.old) (H.view host.new) }
+    ensures rest { KeepsRest dev (H.view host.old) (H.view host.new) }
+    ensures cause { HasCause (H.view host.old).faults (H.view host.new).faults result }
+{
+    let length = host.length(dev)?;
+    if length < HEADER_BYTES {
+        return Ok(Found::Blank);
+    }
+    load_parts(host, dev)
+}
+
+/// The same of a device that is not blank.
+fn load_parts<H: Host>(host: &mut H, dev: u8) -> Result<Found, Failed>
+    requires dev { dev < 8 }
+    requires long { H.tells.reads → 131072 ≤ length ((H.view host.old).reads dev) }
+    ensures found { IfOk result (λ f. H.tells.reads → IsFoundOn f ((H.view host.old).reads dev)) }
+    ensures still { IsStill (H.view host.old) (H.view host.new) }
+    ensures stop { Within dev IsSameImage IsAny (H.view host.old) (H.view host.new) }
+    ensures rest { KeepsRest dev (H.view host.old) (H.view host.new) }
+    ensures cause { HasCause (H.view host.old).faults (H.view host.new).faults result }
+{
+    let mut header = zeros::<1024>();
+    host.read_at(dev, 0, &mut header)?;
+    let mut table = zeros::<2592>();
+    host.read_at(dev, chosen(header[512], TABLE_A, TABLE_B), &mut table)?;
+    let mut journal = zeros::<1025>();
+    host.read_at(dev, chosen(header[513], JOURNAL_A, JOURNAL_B), &mut journal)?;
+    Ok(judge(&header, &table, &journal))
+}

@@ -1,0 +1,79 @@
+ghost use Rattle.std.specs.Prelude.{◌≡◌, ◌<◌, ◌≤◌, List, ℕ, IfOk, OnOk};
+ghost use Rattle.tq_host.specs.View.{IsSettled};
+ghost use Rattle.tq_host.specs.Calls.{HasCause};
+ghost use Rattle.tq_host.specs.Within.{KeepsRest, Within};
+ghost use Rattle.tq_device.specs.Content.{Stands, IsOldOrRaised, IsSameButJournal, content_view, with_raised_epoch};
+ghost use Rattle.tq_device.specs.Raised.{IsFilled};
+
+use crate::DeviceContent;
+use crate::bytes::{base_start, padded};
+use crate::layout::{JOURNAL_A, JOURNAL_B, other};
+use tq_host::{Failed, Host};
+
+/// Raises the epoch of a device that holds this content. A stop inside leaves the old epoch or
+/// the next one.
+pub fn raise_epoch<H: Host>(
+    host: &mut H,
+    dev: u8,
+    content: &DeviceContent,
+) -> Result<DeviceContent, Failed>
+    requires dev { dev < 8 }
+    requires below { content.now.epoch < 4294967295 }
+    requires holds { H.tells.reads → Stands content.now ((H.view host.old).reads dev) }
+
+    ensures raised { IfOk result (λ d. content_view d ≡ with_raised_epoch (content_view content.now)) }
+    ensures done { IfOk result (λ d. H.tells.reads → Stands d ((H.view host.new).reads dev)) }
+    ensures kept { OnOk result (H.tells.reads → IsSameButJournal ((H.view host.old).reads dev) ((H.view host.new).reads dev)) }
+    ensures settled { OnOk result (IsSettled dev (H.view host.new)) }
+    ensures stop { ((c : List ℕ) → (H.view host.old).may_leave dev c → Stands content.now c)
+        → Within dev IsSameButJournal (IsOldOrRaised (content_view content.now)) (H.view host.old) (H.view host.new) }
+    ensures rest { KeepsRest dev (H.view host.old) (H.view host.new) }
+    ensures cause { HasCause (H.view host.old).faults (H.view host.new).faults result }
+{
+    fill(host, dev, content)?;
+    choose(host, dev, content)
+}
+
+/// Writes the next epoch's journal into the area not chosen.
+fn fill<H: Host>(host: &mut H, dev: u8, content: &DeviceContent) -> Result<(), Failed>
+    requires dev { dev < 8 }
+    requires below { content.now.epoch < 4294967295 }
+    requires holds { H.tells.reads → Stands content.now ((H.view host.old).reads dev) }
+
+    ensures done { OnOk result (H.tells.reads → IsFilled content.now ((H.view host.new).reads dev)) }
+    ensures kept { OnOk result (H.tells.reads → IsSameButJournal ((H.view host.old).reads dev) ((H.view host.new).reads dev)) }
+    ensures settled { OnOk result (IsSettled dev (H.view host.new)) }
+    ensures stop { ((c : List ℕ) → (H.view host.old).may_leave dev c → Stands content.now c)
+        → Within dev IsSameButJournal (Stands content.now) (H.view host.old) (H.view host.new) }
+    ensures rest { KeepsRest dev (H.view host.old) (H.view host.new) }
+    ensures cause { HasCause (H.view host.old).faults (H.view host.new).faults result }
+{
+    let base = padded::<1025>(&base_start(b"TQSJ", content.epoch + 1));
+    host.write_at(dev, other(content.journal, JOURNAL_A, JOURNAL_B), &base)?;
+    host.sync(dev)
+}
+
+/// Chooses the area that was filled.
+fn choose<H: Host>(host: &mut H, dev: u8, content: &DeviceContent) -> Result<DeviceContent, Failed>
+    requires dev { dev < 8 }
+    requires below { content.now.epoch < 4294967295 }
+    requires holds { H.tells.reads → IsFilled content.now ((H.view host.old).reads dev) }
+
+    ensures raised { IfOk result (λ d. content_view d ≡ with_raised_epoch (content_view content.now)) }
+    ensures done { IfOk result (λ d. H.tells.reads → Stands d ((H.view host.new).reads dev)) }
+    ensures kept { OnOk result (H.tells.reads → IsSameButJournal ((H.view host.old).reads dev) ((H.view host.new).reads dev)) }
+    ensures settled { OnOk result (IsSettled dev (H.view host.new)) }
+    ensures stop { ((c : List ℕ) → (H.view host.old).may_leave dev c → IsFilled content.now c)
+        → Within dev IsSameButJournal (IsOldOrRaised (content_view content.now)) (H.view host.old) (H.view host.new) }
+    ensures rest { KeepsRest dev (H.view host.old) (H.view host.new) }
+    ensures cause { HasCause (H.view host.old).faults (H.view host.new).faults result }
+{
+    let journal = 1 - content.journal % 2;
+    host.write_at(dev, 513, &[journal])?;
+    host.sync(dev)?;
+    Ok(DeviceContent {
+        epoch: content.epoch + 1,
+        journal,
+        ..*content
+    })
+}

@@ -1,0 +1,70 @@
+-- How the counts of the parts of a run add up.
+use Rattle.std.proofs.Common.{◌≡◌, ◌≤◌, ◌<◌, ℕ, Result, Ok, Err, refl, sym, ◌∙◌, ap, subst, OnOk, OnErr, arith}
+use Rattle.tq_host.specs.View.{View}
+use Rattle.tq_host.specs.Calls.{HasCauseOf}
+use Rattle.tq_run.specs.declared.status.Status.{Status}
+use Rattle.tq_run.specs.declared.status.Status.TheVariants as status
+use Rattle.tq_run.specs.declared.status.Stop.{Stop}
+use Rattle.tq_run.specs.declared.status.Stop.TheVariants.{Damaged, Memory, Input, Output, Device, TooMuchInput}
+use Rattle.tq_run.specs.Ending.{status_for}
+use Rattle.tq_run.specs.Counts.{Rises, IsQuiet, RoseDevice, RoseInput, RoseOutput, StopCounts, HasCounts}
+
+pub quiet : (v : View) → IsQuiet v v
+quiet v = record { device = refl; input = refl; output = refl }
+
+pub quiet_on : (a b c : View) → IsQuiet a b → IsQuiet b c → IsQuiet a c
+quiet_on a b c first second = record { device = second.device ∙ first.device; input = second.input ∙ first.input; output = second.output ∙ first.output }
+
+stop_on : (stop : Stop) (a b c : View) → IsQuiet a b → StopCounts stop b c → StopCounts stop a c
+stop_on Damaged a b c first second = quiet_on a b c first second
+stop_on Memory a b c first second = quiet_on a b c first second
+stop_on TooMuchInput a b c first second = quiet_on a b c first second
+stop_on Device a b c first second = record { device = subst (λ n. Rises n c.faults) first.device second.device; input = second.input ∙ first.input; output = second.output ∙ first.output }
+stop_on Input a b c first second = record { device = second.device ∙ first.device; input = subst (λ n. Rises n c.streams.input_faults) first.input second.input; output = second.output ∙ first.output }
+stop_on Output a b c first second = record { device = second.device ∙ first.device; input = second.input ∙ first.input; output = subst (λ n. Rises n c.streams.output_faults) first.output second.output }
+
+-- a part of a run, after one in which nothing failed
+pub counts_on : {T : Type 0} (r : Result T Stop) (a b c : View) → IsQuiet a b → HasCounts r b c → HasCounts r a c
+counts_on (Ok x) a b c first second = quiet_on a b c first second
+counts_on (Err stop) a b c first second = stop_on stop a b c first second
+
+-- a fact of an Ok, where there is one
+pub on_ok : {T E : Type 0} (r : Result T E) (G : Type 0) → ((x : T) → r ≡ Ok x → G) → OnOk r G
+on_ok (Ok x) G f = f x refl
+on_ok (Err e) G f = tt
+
+pub of_ok : {T E : Type 0} (r : Result T E) (x : T) (A : Type 0) → r ≡ Ok x → OnOk r A → A
+of_ok {T} {E} r x A e h = subst (λ (q : Result T E). OnOk q A) e h
+
+steady_cause : (failed : Type 0) (before now : ℕ) → now ≡ before → (failed → ⊥) → HasCauseOf failed before now
+steady_cause failed before now same never = record { later = omega arith; rose = λ f. absurd (never f); only = λ lt. absurd (omega arith) }
+
+risen_cause : (failed : Type 0) (before now : ℕ) → Rises before now → failed → HasCauseOf failed before now
+risen_cause failed before now rises f = record { later = rises.later; rose = λ g. rises.rose; only = λ lt. f }
+
+pub device_cause : (r : Result (Unit {0}) Stop) (old new : View) → HasCounts r old new → HasCauseOf (status_for r ≡ status.DeviceFault) old.faults new.faults
+device_cause (Ok x) old new h = steady_cause _ _ _ h.device (λ e. cc)
+device_cause (Err Damaged) old new h = steady_cause _ _ _ h.device (λ e. cc)
+device_cause (Err Memory) old new h = steady_cause _ _ _ h.device (λ e. cc)
+device_cause (Err Input) old new h = steady_cause _ _ _ h.device (λ e. cc)
+device_cause (Err Output) old new h = steady_cause _ _ _ h.device (λ e. cc)
+device_cause (Err TooMuchInput) old new h = steady_cause _ _ _ h.device (λ e. cc)
+device_cause (Err Device) old new h = risen_cause _ _ _ h.device refl
+
+pub read_cause : (r : Result (Unit {0}) Stop) (old new : View) → HasCounts r old new → HasCauseOf (status_for r ≡ status.ReadFault) old.streams.input_faults new.streams.input_faults
+read_cause (Ok x) old new h = steady_cause _ _ _ h.input (λ e. cc)
+read_cause (Err Damaged) old new h = steady_cause _ _ _ h.input (λ e. cc)
+read_cause (Err Memory) old new h = steady_cause _ _ _ h.input (λ e. cc)
+read_cause (Err Device) old new h = steady_cause _ _ _ h.input (λ e. cc)
+read_cause (Err Output) old new h = steady_cause _ _ _ h.input (λ e. cc)
+read_cause (Err TooMuchInput) old new h = steady_cause _ _ _ h.input (λ e. cc)
+read_cause (Err Input) old new h = risen_cause _ _ _ h.input refl
+
+pub write_cause : (r : Result (Unit {0}) Stop) (old new : View) → HasCounts r old new → HasCauseOf (status_for r ≡ status.WriteFault) old.streams.output_faults new.streams.output_faults
+write_cause (Ok x) old new h = steady_cause _ _ _ h.output (λ e. cc)
+write_cause (Err Damaged) old new h = steady_cause _ _ _ h.output (λ e. cc)
+write_cause (Err Memory) old new h = steady_cause _ _ _ h.output (λ e. cc)
+write_cause (Err Device) old new h = steady_cause _ _ _ h.output (λ e. cc)
+write_cause (Err Input) old new h = steady_cause _ _ _ h.output (λ e. cc)
+write_cause (Err TooMuchInput) old new h = steady_cause _ _ _ h.output (λ e. cc)
+write_cause (Err Output) old new h = risen_cause _ _ _ h.output refl

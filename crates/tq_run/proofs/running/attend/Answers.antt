@@ -1,0 +1,60 @@
+use Rattle.std.proofs.Common.{◌≡◌, ◌∙◌, ap, subst, rules, Result, Some}
+use Rattle.tq_host.specs.View.{Streams, TellsAll}
+use Rattle.tq_model.specs.declared.answer.Answer.{Answer}
+use Rattle.tq_model.specs.Site.{Site}
+use Rattle.tq_model.specs.Step.{ready}
+use Rattle.tq_model.specs.Text.{line_text}
+use Rattle.tq_model.specs.Reading.{site_found}
+use Rattle.tq_run.specs.declared.status.Stop.{Stop}
+use Rattle.tq_run.specs.Counts.{IsQuiet, HasCounts}
+use Rattle.tq_run.specs.Manager.{site_of}
+use Rattle.tq_run.specs.Output.{GivesText}
+use Rattle.tq_run.specs.Serial.{IsSerial}
+use Rattle.tq_run.proofs.CountLemmas.{on_ok, of_ok}
+use Rattle.tq_run.proofs.Lines.{some_more, none_given}
+use Rattle.tq_run.proofs.Attending.{is_serial, was_bootable, from_before}
+use Rattle.tq_run.proofs.running.attend.Goals as goal
+
+pub returns-in_err-manager-clause-some : goal.returns-in_err-manager-clause-some
+returns-in_err-manager-clause-some g c = λ t.
+    let same = c.boot.ensures.rest.streams ∙ c.attach.ensures.call.streams in
+    none_given (g.H.Host.view c.args.host.now) (g.H.Host.view c.boot.new.host) (ap (λ (s : Streams). s.output) same) (ap (λ (s : Streams). s.stamps) same)
+
+pub returns-clause-done : goal.returns-clause-done
+returns-clause-done g c =
+    let a = g.H.Host.view c.args.host.now in
+    let b = g.H.Host.view c.attach.new.self in
+    let d = g.H.Host.view c.boot.new.host in
+    let e = g.H.Host.view c.give_answer.new.host in
+    let f = g.H.Host.view c.answer_script.new.host in
+    let m = c.in_ok-manager.manager in
+    let m' = c.answer_script.new.manager in
+    let r = c.answer_script.result in
+    let attached : b.faults ≡ a.faults = search rules in
+    let quiet : IsQuiet b d = c.in_ok-manager.ensures.counts in
+    let answered : IsQuiet d e = c.in_ok-give_answer.ensures.counts in
+    on_ok r (TellsAll g.H.Host.tells → (found : Site) → site_found 1 a.reads ≡ Some found → IsSerial a f found) (λ x ok. λ t found is.
+    let served : IsQuiet e f = subst (λ (q : Result (Unit {0}) Stop). HasCounts q e f) ok c.answer_script.ensures.counts in
+    let said : GivesText (line_text 0 (ready (site_of m))) d e = subst (λ (ans : Answer). GivesText (line_text 0 ans) d e) c.readiness.ensures (c.in_ok-give_answer.ensures.gave t.output) in
+    is_serial m m' a b d e f c.attach.ensures.call.streams attached (c.attach.ensures.still.reads 0) (c.in_ok-manager.ensures.booted t.reads) c.boot.ensures.rest.streams quiet.device
+    said answered.device c.give_answer.ensures.input
+    (of_ok r x _ ok c.answer_script.ensures.site t.script) (of_ok r x _ ok c.answer_script.ensures.left t.script) (of_ok r x _ ok c.answer_script.ensures.holds t.reads)
+    (of_ok r x _ ok c.answer_script.ensures.gave t.script t.output) served.device found is)
+
+pub returns-clause-bootable : goal.returns-clause-bootable
+returns-clause-bootable g c = λ damaged device t.
+    was_bootable c.in_ok-manager.manager (g.H.Host.view c.args.host.now) (g.H.Host.view c.attach.new.self) (g.H.Host.view c.boot.new.host) (c.attach.ensures.still.reads 0) (c.in_ok-manager.ensures.booted t)
+
+pub returns-clause-some : goal.returns-clause-some
+returns-clause-some g c = λ t.
+    let a = g.H.Host.view c.args.host.now in
+    let b = g.H.Host.view c.attach.new.self in
+    let d = g.H.Host.view c.boot.new.host in
+    let e = g.H.Host.view c.give_answer.new.host in
+    let f = g.H.Host.view c.answer_script.new.host in
+    let attached : b.faults ≡ a.faults = search rules in
+    let quiet : IsQuiet b d = c.in_ok-manager.ensures.counts in
+    let answered : IsQuiet d e = c.in_ok-give_answer.ensures.counts in
+    let first = c.give_answer.ensures.some t in
+    let begun = from_before first.0 a d e (c.boot.ensures.rest.streams ∙ c.attach.ensures.call.streams) (quiet.device ∙ attached) first.1 in
+    some_more a e f (answered.device ∙ quiet.device ∙ attached) (first.0, begun) (c.answer_script.ensures.some t)

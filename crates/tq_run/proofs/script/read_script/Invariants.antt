@@ -1,0 +1,18 @@
+use Rattle.std.proofs.Common.{◌≡◌, ℕ, ◌+◌, List, ◌++◌}
+use Rattle.tq_run.specs.Counts.{IsQuiet}
+use Rattle.tq_run.specs.Input.{TakesOnly}
+use Rattle.tq_run.proofs.script.read_script.Given as goal
+
+abbrev pub invariant-loop-left : goal.invariant-loop-left
+invariant-loop-left g l =
+    let start = g.H.Host.view l.fn.host in
+    let now = g.H.Host.view l.host in
+    record {
+      bytes : g.H.Host.tells.script → l.script.items ++ now.streams.script ≡ start.streams.script;
+      taken : g.H.Host.tells.output → now.streams.taken + l.left ≡ start.streams.taken + l.fn.limit;
+      still : TakesOnly start now;
+      quiet : IsQuiet start now;
+    }
+
+abbrev pub decreases-loop-left : goal.decreases-loop-left
+decreases-loop-left g l = l.left

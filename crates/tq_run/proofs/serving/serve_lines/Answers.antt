@@ -1,0 +1,41 @@
+use Rattle.std.proofs.Common.{◌≡◌, ◌<◌, ◌+◌, ℕ, List, ◌∷◌, ◌++◌, length, sym, ◌∙◌, ap, subst, rules, arith}
+use Rattle.tq_model.specs.Site.{Site}
+use Rattle.tq_model.specs.Step.{step}
+use Rattle.tq_model.specs.Text.{line_text}
+use Rattle.tq_model.specs.Grammar.{script_lines, script_requests, line_request}
+use Rattle.tq_run.specs.Manager.{site_of}
+use Rattle.tq_run.specs.Serial.{site_after, lines_text}
+use Rattle.tq_run.specs.Counts.{IsQuiet}
+use Rattle.tq_run.proofs.CountLemmas.{quiet_on}
+use Rattle.tq_run.proofs.Lines.{GaveSoFar, gave_more, site_first, text_first}
+use Rattle.tq_run.proofs.serving.serve_lines.Goals as goal
+
+pub loop-line-preserved : goal.loop-line-preserved
+loop-line-preserved g c =
+    let inv = c.loop-line.invariant in
+    let start = g.H.Host.view c.args.host.now in
+    let mid = g.H.Host.view c.loop-line.host in
+    let new = g.H.Host.view c.serve_line.new.host in
+    let rest = c.loop-line.rest.now in
+    let line = c.in-Some.line.now in
+    let behind = c.in-Some.behind.now in
+    let n = c.loop-line.number in
+    let s = site_of c.loop-line.manager in
+    let m = site_of c.serve_line.new.manager in
+    let cut : script_lines rest ≡ line ∷ script_lines behind = c.in-Some.ensures.lines in
+    let shorter : length behind < length rest = c.in-Some.ensures.shorter in
+    let stepped : m ≡ (step s (line_request line)).site = c.in_ok-serve_line.ensures.site in
+    let quiet : IsQuiet mid new = c.in_ok-serve_line.ensures.counts in
+    let whole = lines_text 1 (site_of c.args.manager.now) (script_requests c.args.script.now) in
+    let next = lines_text (n + 1) (step s (line_request line)).site (script_requests behind) in
+    record {
+      count = omega (arith, inv.count, shorter);
+      holds = c.in_ok-serve_line.ensures.holds;
+      site = ap (λ (x : Site). site_after x (script_requests behind)) stepped ∙ sym (site_first s rest line behind cut) ∙ inv.site;
+      gave = λ t.
+          let so_far : GaveSoFar whole (line_text n (step s (line_request line)).answer ++ next) start mid = subst (λ (left : List ℕ). GaveSoFar whole left start mid) (text_first n s rest line behind cut) (inv.gave t) in
+          let more : GaveSoFar whole next start new = gave_more whole (line_text n (step s (line_request line)).answer) next start mid new so_far inv.quiet.device (c.in_ok-serve_line.ensures.gave t) in
+          subst (λ (x : Site). GaveSoFar whole (lines_text (n + 1) x (script_requests behind)) start new) (sym stepped) more;
+      input = search rules;
+      quiet = quiet_on start mid new inv.quiet quiet;
+    }

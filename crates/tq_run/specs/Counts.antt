@@ -1,0 +1,50 @@
+-- Which of the host's three counts rose, by the way in which a part of a run ended.
+use Rattle.std.specs.Prelude.{◌≡◌, ◌≤◌, ℕ, Result, Ok, Err}
+use Rattle.tq_host.specs.View.{View}
+use Rattle.tq_host.specs.Calls.{Rose}
+use Rattle.tq_run.specs.declared.status.Stop.{Stop}
+use Rattle.tq_run.specs.declared.status.Stop.TheVariants.{Damaged, Memory, Input, Output, Device, TooMuchInput}
+
+-- a count rose, and did not fall
+pub record Rises (before now : ℕ) : Type 0 where
+  pub later : before ≤ now
+  pub rose : Rose before now
+
+-- no count rose
+pub record IsQuiet (old new : View) : Type 0 where
+  pub device : new.faults ≡ old.faults
+  pub input : new.streams.input_faults ≡ old.streams.input_faults
+  pub output : new.streams.output_faults ≡ old.streams.output_faults
+
+-- no call failed, by what the counts tell
+pub record NoneRose (old new : View) : Type 0 where
+  pub device : Rose old.faults new.faults → ⊥
+  pub input : Rose old.streams.input_faults new.streams.input_faults → ⊥
+  pub output : Rose old.streams.output_faults new.streams.output_faults → ⊥
+
+pub record RoseDevice (old new : View) : Type 0 where
+  pub device : Rises old.faults new.faults
+  pub input : new.streams.input_faults ≡ old.streams.input_faults
+  pub output : new.streams.output_faults ≡ old.streams.output_faults
+
+pub record RoseInput (old new : View) : Type 0 where
+  pub device : new.faults ≡ old.faults
+  pub input : Rises old.streams.input_faults new.streams.input_faults
+  pub output : new.streams.output_faults ≡ old.streams.output_faults
+
+pub record RoseOutput (old new : View) : Type 0 where
+  pub device : new.faults ≡ old.faults
+  pub input : new.streams.input_faults ≡ old.streams.input_faults
+  pub output : Rises old.streams.output_faults new.streams.output_faults
+
+abbrev pub StopCounts : Stop → View → View → Type 0
+StopCounts Device old new = RoseDevice old new
+StopCounts Input old new = RoseInput old new
+StopCounts Output old new = RoseOutput old new
+StopCounts Damaged old new = IsQuiet old new
+StopCounts Memory old new = IsQuiet old new
+StopCounts TooMuchInput old new = IsQuiet old new
+
+abbrev pub HasCounts : {T : Type 0} → Result T Stop → View → View → Type 0
+HasCounts (Ok x) old new = IsQuiet old new
+HasCounts (Err stop) old new = StopCounts stop old new

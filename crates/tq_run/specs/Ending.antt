@@ -1,0 +1,66 @@
+-- What a run comes to.
+use Rattle.std.specs.Prelude.{◌≡◌, ◌⊎◌, ℕ, Bool, true, false, Result, Ok, Err, List, [], ◌∷◌, ◌++◌, map, Option, Some}
+use Rattle.tq_host.specs.View.{View, Stamp, Told}
+use Rattle.tq_model.specs.declared.request.Request.{Request}
+use Rattle.tq_model.specs.declared.request.Request.TheVariants.{Boot}
+use Rattle.tq_model.specs.Site.{Site}
+use Rattle.tq_model.specs.Grammar.{script_requests}
+use Rattle.tq_model.specs.Faulty.{Trace, Progress, beginning, after, rose_at, StandForState}
+use Rattle.tq_model.specs.Reading.{site_found}
+use Rattle.tq_run.specs.declared.status.Status.{Status}
+use Rattle.tq_run.specs.declared.status.Status.TheVariants as status
+use Rattle.tq_run.specs.declared.status.Stop.{Stop}
+use Rattle.tq_run.specs.declared.status.Stop.TheVariants.{Damaged, Memory, Input, Output, Device, TooMuchInput}
+use Rattle.tq_run.specs.Manager.{is_bootable}
+
+-- what the host tells of a run over one device, in which these stamps came
+abbrev pub trace_of : View → View → List Stamp → Trace
+trace_of start now added = record { devices = 1; before = start.faults; counts = map (λ (s : Stamp). s.faults) added; reads = map (λ (s : Stamp). s.reads) added; after = now.faults }
+
+-- the machine at the end of a run over a script, line 0 being a boot of the site that was found
+abbrev pub machine_at_end : Trace → Site → List ℕ → Progress
+machine_at_end trace found script = after trace (beginning found) (Boot ∷ script_requests script)
+
+-- A run that is done: the script is read to its end, the output is the machine's text, and the devices stand for its state.
+pub record IsDone (start now : View) (found : Site) : Type 0 where
+  pub added : List Stamp
+  pub stamps : now.streams.stamps ≡ start.streams.stamps ++ added
+  pub script : now.streams.script ≡ []
+  pub output : now.streams.output ≡ start.streams.output ++ (machine_at_end (trace_of start now added) found start.streams.script).text
+  pub devices : StandForState 1 now.reads (machine_at_end (trace_of start now added) found start.streams.script).condition
+
+-- nothing was written and nothing given
+pub record IsUntouched (start now : View) : Type 0 where
+  pub reads : (d : ℕ) → now.reads d ≡ start.reads d
+  pub streams : now.streams ≡ start.streams
+
+-- device 0 alone can be damaged
+pub record IsDamaged (tells : Told) (d : ℕ) (start now : View) : Type 0 where
+  pub first : d ≡ 0
+  pub cause : tells.reads → is_bootable (site_found 1 start.reads) ≡ false
+  pub untouched : IsUntouched start now
+
+-- Where a device failed in line 0, by what is told of the output, the run ended so and nothing was given.
+abbrev pub FailsInLine0 : Type 0 → View → View → Type 0
+FailsInLine0 ended start now = (added : List Stamp) → now.streams.stamps ≡ start.streams.stamps ++ added → rose_at (trace_of start now added) 0 ≡ true → ended × (now.streams.output ≡ start.streams.output)
+
+-- the run was done, or wanted memory or a shorter script
+abbrev pub IsComplete : Status → Type 0
+IsComplete status.Done = Unit {0}
+IsComplete status.NoMemory = Unit {0}
+IsComplete status.TooMuchInput = Unit {0}
+IsComplete status.Usage = ⊥
+IsComplete (status.Damaged d) = ⊥
+IsComplete status.ReadFault = ⊥
+IsComplete status.WriteFault = ⊥
+IsComplete status.DeviceFault = ⊥
+
+-- the status of an ending
+abbrev pub status_for : Result (Unit {0}) Stop → Status
+status_for (Ok x) = status.Done
+status_for (Err Damaged) = status.Damaged 0
+status_for (Err Memory) = status.NoMemory
+status_for (Err Input) = status.ReadFault
+status_for (Err Output) = status.WriteFault
+status_for (Err Device) = status.DeviceFault
+status_for (Err TooMuchInput) = status.TooMuchInput

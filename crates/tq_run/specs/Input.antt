@@ -1,0 +1,21 @@
+-- The script as it is taken.
+use Rattle.std.specs.Prelude.{◌≡◌, ◌≤◌, ℕ, ◌+◌, List, [], ◌++◌, length}
+use Rattle.tq_host.specs.View.{View, Told, Streams}
+
+-- takes change nothing but the input
+pub record TakesOnly (old new : View) : Type 0 where
+  pub later : old.clock ≤ new.clock
+  pub reads : (d : ℕ) → new.reads d ≡ old.reads d
+  pub output : new.streams.output ≡ old.streams.output
+  pub stamps : new.streams.stamps ≡ old.streams.stamps
+
+-- the whole script was read
+pub record IsRead (script : List ℕ) (old new : Streams) : Type 0 where
+  pub bytes : script ≡ old.script
+  pub left : new.script ≡ []
+
+-- n more bytes of the script are had
+pub record IsTakenSoFar (tells : Told) (n : ℕ) (had has : List ℕ) (old new : View) : Type 0 where
+  pub bytes : tells.script → has ++ new.streams.script ≡ had ++ old.streams.script
+  pub end : tells.script → n ≡ 0 → (new.streams.script ≡ []) × (has ≡ had)
+  pub taken : tells.output → new.streams.taken ≡ old.streams.taken + n

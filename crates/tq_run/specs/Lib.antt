@@ -1,0 +1,7 @@
+pub mod Counts
+pub mod Words
+pub mod Manager
+pub mod Input
+pub mod Output
+pub mod Serial
+pub mod Ending

@@ -1,0 +1,140 @@
+ghost use Rattle.std.specs.Prelude.{◌≡◌, ◌≢◌, ◌⊎◌, ◌<◌, ◌≤◌, ◌+◌, ◌++◌, ◌↔◌, true, false, [], List, ℕ, map, string_bytes, OnOk, IfErr, None, Some};
+ghost use Rattle.tq_host.specs.Calls.{HasCauseOf, Rose};
+ghost use Rattle.tq_host.specs.View.{TellsAll};
+ghost use Rattle.tq_model.specs.Site.{Site};
+ghost use Rattle.tq_model.specs.Grammar.{script_requests};
+ghost use Rattle.tq_model.specs.Reading.{site_found};
+ghost use Rattle.tq_run.specs.Counts.{NoneRose, HasCounts};
+ghost use Rattle.tq_run.specs.Ending.{IsDone, IsUntouched, IsDamaged, FailsInLine0, IsComplete, status_for};
+ghost use Rattle.tq_run.specs.Input.{IsRead};
+ghost use Rattle.tq_run.specs.Manager.{site_of, IsOn, is_bootable};
+ghost use Rattle.tq_run.specs.Output.{GivesText, GivesSome, KeepsInput};
+ghost use Rattle.tq_run.specs.Serial.{site_after, lines_text, IsSerial};
+ghost use Rattle.tq_run.specs.Words.{device_word};
+
+use crate::devices::readiness;
+use crate::manager::{Manager, boot};
+use crate::script::read_script;
+use crate::serving::{give_answer, serve_lines};
+use crate::status::{Status, Stop};
+use crate::words::device_path;
+use std::alloc::Global;
+use tq_host::Host;
+
+// No run takes more bytes.
+const MOST_INPUT: u64 = 4294967296;
+
+// Reads the script, at most `limit` bytes of it, and answers its lines.
+fn answer_script<H: Host>(
+    alloc: Global,
+    host: &mut H,
+    manager: &mut Manager,
+    limit: u64,
+) -> Result<(), Stop>
+    requires limit { 0 < limit }
+    requires holds { H.tells.reads → IsOn manager.old ((H.view host.old).reads 0) }
+    ensures left { OnOk result (H.tells.script → (H.view host.new).streams.script ≡ []) }
+    ensures site { OnOk result (H.tells.script → site_of manager.new ≡ site_after (site_of manager.old) (script_requests (H.view host.old).streams.script)) }
+    ensures holds { OnOk result (H.tells.reads → IsOn manager.new ((H.view host.new).reads 0)) }
+    ensures gave { OnOk result (H.tells.script → H.tells.output → GivesText (lines_text 1 (site_of manager.old) (script_requests (H.view host.old).streams.script)) (H.view host.old) (H.view host.new)) }
+    ensures some { H.tells.output → GivesSome (H.view host.old) (H.view host.new) }
+    ensures much { result ≡ Err Stop.TooMuchInput → H.tells.output → (H.view host.new).streams.taken ≡ (H.view host.old).streams.taken + limit }
+    ensures less { (result ≢ Err Stop.TooMuchInput) → (result ≢ Err Stop.Memory) → H.tells.output → (H.view host.new).streams.taken < (H.view host.old).streams.taken + limit }
+    ensures most { H.tells.output → (H.view host.new).streams.taken ≤ (H.view host.old).streams.taken + limit }
+    ensures counts { HasCounts result (H.view host.old) (H.view host.new) }
+    ensures undamaged { result ≢ Err Stop.Damaged }
+{
+    let script = read_script(alloc, host, limit)?;
+    serve_lines(alloc, host, manager, &script)
+}
+
+// A run over one device: a boot, which is line 0, and the lines of the script, of which at most `limit` bytes are read.
+fn attend<H: Host>(alloc: Global, path: &str, host: &mut H, limit: u64) -> Result<(), Stop>
+    requires { 0 < limit }
+    ensures done { OnOk result (TellsAll H.tells → (found : Site) → site_found 1 (H.view host.old).reads ≡ Some found → IsSerial (H.view host.old) (H.view host.new) found) }
+    ensures damaged { result ≡ Err Stop.Damaged → H.tells.reads → is_bootable (site_found 1 (H.view host.old).reads) ≡ false }
+    ensures untouched { result ≡ Err Stop.Damaged → IsUntouched (H.view host.old) (H.view host.new) }
+    ensures bootable { (result ≢ Err Stop.Damaged) → (result ≢ Err Stop.Device) → H.tells.reads → is_bootable (site_found 1 (H.view host.old).reads) ≡ true }
+    ensures some { H.tells.output → GivesSome (H.view host.old) (H.view host.new) }
+    ensures much { result ≡ Err Stop.TooMuchInput → H.tells.output → (H.view host.new).streams.taken ≡ (H.view host.old).streams.taken + limit }
+    ensures less { (result ≢ Err Stop.TooMuchInput) → (result ≢ Err Stop.Memory) → H.tells.output → (H.view host.new).streams.taken < (H.view host.old).streams.taken + limit }
+    ensures most { H.tells.output → (H.view host.new).streams.taken ≤ (H.view host.old).streams.taken + limit }
+    ensures counts { HasCounts result (H.view host.old) (H.view host.new) }
+{
+    host.attach(0, path).map_err(|_| Stop::Device)?;
+    let mut manager = boot(host)?;
+    give_answer(alloc, host, 0, &readiness(&manager))?;
+    answer_script(alloc, host, &mut manager, limit)
+}
+
+// The status of an ending.
+fn status_of(ending: Result<(), Stop>) -> Status
+    ensures { result ≡ status_for ending }
+{
+    match ending {
+        Ok(()) => Status::Done,
+        Err(Stop::Damaged) => Status::Damaged(0),
+        Err(Stop::Memory) => Status::NoMemory,
+        Err(Stop::Input) => Status::ReadFault,
+        Err(Stop::Output) => Status::WriteFault,
+        Err(Stop::Device) => Status::DeviceFault,
+        Err(Stop::TooMuchInput) => Status::TooMuchInput,
+    }
+}
+
+// A run that reads at most `limit` bytes.
+pub fn run_within<H: Host>(alloc: Global, words: &[String], host: &mut H, limit: u64) -> Status
+    requires { 0 < limit }
+    ensures usage { (result ≡ Status.Usage) ↔ (device_word (map string_bytes words.now) ≡ None) }
+    ensures nothing_else { result ≡ Status.Usage → host.new ≡ host.old }
+    ensures damaged { (d : ℕ) → result ≡ Status.Damaged d → IsDamaged H.tells d (H.view host.old) (H.view host.new) }
+    ensures damaged_always { result ≢ Status.Usage → H.tells.reads → is_bootable (site_found 1 (H.view host.old).reads) ≡ false → (Rose (H.view host.old).faults (H.view host.new).faults → ⊥) → result ≡ Status.Damaged 0 }
+    ensures read_fault { HasCauseOf (result ≡ Status.ReadFault) (H.view host.old).streams.input_faults (H.view host.new).streams.input_faults }
+    ensures write_fault { HasCauseOf (result ≡ Status.WriteFault) (H.view host.old).streams.output_faults (H.view host.new).streams.output_faults }
+    ensures device_fault { HasCauseOf (result ≡ Status.DeviceFault) (H.view host.old).faults (H.view host.new).faults }
+    ensures line_0 { H.tells.output → FailsInLine0 (result ≡ Status.DeviceFault) (H.view host.old) (H.view host.new) }
+    ensures too_much { result ≡ Status.TooMuchInput → H.tells.output → (H.view host.new).streams.taken ≡ (H.view host.old).streams.taken + limit }
+    ensures too_much_always { H.tells.output → (H.view host.new).streams.taken ≡ (H.view host.old).streams.taken + limit → (result ≡ Status.TooMuchInput) ⊎ (result ≡ Status.NoMemory) }
+    ensures most { H.tells.output → (H.view host.new).streams.taken ≤ (H.view host.old).streams.taken + limit }
+    ensures done { result ≡ Status.Done → TellsAll H.tells → (found : Site) → site_found 1 (H.view host.old).reads ≡ Some found → IsDone (H.view host.old) (H.view host.new) found }
+    ensures complete { result ≢ Status.Usage → H.tells.reads → is_bootable (site_found 1 (H.view host.old).reads) ≡ true → NoneRose (H.view host.old) (H.view host.new) → IsComplete result }
+{
+    match device_path(words) {
+        None => Status::Usage,
+        Some(path) => status_of(attend(alloc, path, host, limit)),
+    }
+}
+
+/// Runs a script of lines over one device file. The words are `run` and the device's path.
+///
+/// Where the host tells what a clause speaks of: `Done` says that the script was read to its end,
+/// that the output is the text of the serial queue machine from the site that the device stood
+/// for, and that the device stands for the machine's site after the last line. Every other status
+/// comes exactly where its cause holds; want of memory alone is free.
+pub fn run<H: Host>(alloc: Global, words: &[String], host: &mut H) -> Status
+    ensures usage { (result ≡ Status.Usage) ↔ (device_word (map string_bytes words.now) ≡ None) }
+    ensures nothing_else { result ≡ Status.Usage → host.new ≡ host.old }
+
+    // The device's bytes have no reading, or its epoch cannot be raised; nothing is written then.
+    ensures damaged { (d : ℕ) → result ≡ Status.Damaged d → IsDamaged H.tells d (H.view host.old) (H.view host.new) }
+    ensures damaged_always { result ≢ Status.Usage → H.tells.reads → is_bootable (site_found 1 (H.view host.old).reads) ≡ false → (Rose (H.view host.old).faults (H.view host.new).faults → ⊥) → result ≡ Status.Damaged 0 }
+
+    // The host failed, each way exactly where its count rose.
+    ensures read_fault { HasCauseOf (result ≡ Status.ReadFault) (H.view host.old).streams.input_faults (H.view host.new).streams.input_faults }
+    ensures write_fault { HasCauseOf (result ≡ Status.WriteFault) (H.view host.old).streams.output_faults (H.view host.new).streams.output_faults }
+    ensures device_fault { HasCauseOf (result ≡ Status.DeviceFault) (H.view host.old).faults (H.view host.new).faults }
+    ensures line_0 { H.tells.output → FailsInLine0 (result ≡ Status.DeviceFault) (H.view host.old) (H.view host.new) }
+
+    // 4,294,967,296 bytes were taken, and the script did not end before.
+    ensures too_much { result ≡ Status.TooMuchInput → H.tells.output → (H.view host.new).streams.taken ≡ (H.view host.old).streams.taken + 4294967296 }
+    ensures too_much_always { H.tells.output → (H.view host.new).streams.taken ≡ (H.view host.old).streams.taken + 4294967296 → (result ≡ Status.TooMuchInput) ⊎ (result ≡ Status.NoMemory) }
+    ensures most { H.tells.output → (H.view host.new).streams.taken ≤ (H.view host.old).streams.taken + 4294967296 }
+
+    // The whole run is the machine's.
+    ensures done { result ≡ Status.Done → TellsAll H.tells → (found : Site) → site_found 1 (H.view host.old).reads ≡ Some found → IsDone (H.view host.old) (H.view host.new) found }
+
+    // Where nothing stands against it, the run is done.
+    ensures complete { result ≢ Status.Usage → H.tells.reads → is_bootable (site_found 1 (H.view host.old).reads) ≡ true → NoneRose (H.view host.old) (H.view host.new) → IsComplete result }
+{
+    run_within(alloc, words, host, MOST_INPUT)
+}

@@ -1,0 +1,58 @@
+ghost use Rattle.std.specs.Prelude.{◌≡◌, ◌≢◌, ◌<◌, ◌≤◌, ◌+◌, ◌++◌, [], List, ℕ, length, IfOk, IfErr, OnOk};
+ghost use Rattle.tq_run.specs.Counts.{HasCounts};
+ghost use Rattle.tq_run.specs.Input.{IsRead, TakesOnly, IsTakenSoFar};
+
+use crate::status::Stop;
+use std::alloc::Global;
+use tq_host::Host;
+
+// The bytes that one take may fill.
+const BUFFER: usize = 4096;
+
+// Takes the next bytes of the script, at most `room` of them, and adds them; 0 at the script's end.
+fn take_some<H: Host>(host: &mut H, script: &mut Vec<u8>, room: u64) -> Result<usize, Stop>
+    requires { 0 < room }
+    ensures taken { IfOk result (λ n. IsTakenSoFar H.tells n script.old.items script.new.items (H.view host.old) (H.view host.new)) }
+    ensures room { IfOk result (λ n. n ≤ room) }
+    ensures refused { result ≡ Err Stop.Input → (H.view host.new).streams.taken ≡ (H.view host.old).streams.taken }
+    ensures still { TakesOnly (H.view host.old) (H.view host.new) }
+    ensures counts { HasCounts result (H.view host.old) (H.view host.new) }
+    ensures two { IfErr result (λ e. (e ≢ Stop.Memory) → e ≡ Stop.Input) }
+    ensures memory { result ≡ Err Stop.Memory → H.tells.output → (n : ℕ) × (n ≤ room) × ((H.view host.new).streams.taken ≡ (H.view host.old).streams.taken + n) }
+{
+    let mut buffer = [0u8; BUFFER];
+    let size = if room < BUFFER as u64 {
+        room as usize
+    } else {
+        BUFFER
+    };
+    let n = host.take(&mut buffer[..size]).map_err(|_| Stop::Input)?;
+    script
+        .extend_from_slice(&buffer[..n])
+        .map_err(|_| Stop::Memory)?;
+    Ok(n)
+}
+
+/// Takes the script to its end, but no more than `limit` bytes.
+pub fn read_script<H: Host>(alloc: Global, host: &mut H, limit: u64) -> Result<Vec<u8>, Stop>
+    requires { 0 < limit }
+    ensures read { IfOk result (λ script. H.tells.script → IsRead script.items (H.view host.old).streams (H.view host.new).streams) }
+    ensures still { TakesOnly (H.view host.old) (H.view host.new) }
+    ensures counts { HasCounts result (H.view host.old) (H.view host.new) }
+    ensures much { result ≡ Err Stop.TooMuchInput → H.tells.output → (H.view host.new).streams.taken ≡ (H.view host.old).streams.taken + limit }
+    ensures less { OnOk result (H.tells.output → (H.view host.new).streams.taken < (H.view host.old).streams.taken + limit) }
+    ensures refused { result ≡ Err Stop.Input → H.tells.output → (H.view host.new).streams.taken < (H.view host.old).streams.taken + limit }
+    ensures most { H.tells.output → (H.view host.new).streams.taken ≤ (H.view host.old).streams.taken + limit }
+    ensures three { IfErr result (λ e. (e ≢ Stop.Memory) → (e ≢ Stop.Input) → e ≡ Stop.TooMuchInput) }
+{
+    let mut script = Vec::new(alloc);
+    let mut left = limit;
+    while left > 0 {
+        let n = take_some(host, &mut script, left)?;
+        if n == 0 {
+            return Ok(script);
+        }
+        left -= n as u64;
+    }
+    Err(Stop::TooMuchInput)
+}

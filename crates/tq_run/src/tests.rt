@@ -1,0 +1,280 @@
+use crate::running::run_within;
+use crate::{Status, run};
+use std::alloc::{AllocError, Global};
+use std::test::Fail;
+use tq_host::{CallKind, FuseHost, MemHost};
+use tq_model::{Machine, Request};
+use tq_script::{first_line, parse};
+
+// An outside with this image on device 0 and this input.
+fn outside(alloc: Global, image: &[u8], script: &[u8], piece: usize) -> Result<MemHost, AllocError>
+    requires { 0 < piece }
+{
+    let mut host = MemHost::new(alloc, script, piece)?;
+    host.set_device(0, image)?;
+    Ok(host)
+}
+
+fn words_of(alloc: Global, words: &[&str]) -> Result<Vec<String>, AllocError> {
+    let mut all = Vec::new(alloc);
+    for word in words {
+        all.push(String::from_str(alloc, word)?)?;
+    }
+    Ok(all)
+}
+
+// The words of a run over one device.
+fn run_words(alloc: Global) -> Result<Vec<String>, AllocError> {
+    words_of(alloc, ["run", "dev0"].as_slice())
+}
+
+const FIRST: &[u8] =
+    b"crdl 0 64 site=1\nlidl 0\ncrdl 0 64\nlidl 1\ncrdl 0\n\n# a comment\nfrob\nlidl 0";
+
+const FIRST_OUTPUT: &[u8] = b"0 READY site=- epoch=- spaces=0 indoubt=0
+1 OK clusters=64 free=60
+2 OK clusters=64 free=60 spaces=0
+3 EXISTS
+4 NODEVICE
+5 SYNTAX column=7
+6 OK
+7 OK
+8 SYNTAX column=1
+9 OK clusters=64 free=60 spaces=0
+";
+
+#[test]
+fn a_device_is_created_and_read_again(rt: HostRuntime) -> Result<(), Fail> {
+    let alloc = rt.alloc();
+    let words = run_words(alloc)?;
+    for piece in [1usize, 7, 4096] {
+        let mut host = outside(alloc, b"".as_slice(), FIRST, piece)?;
+        assert!(rt; run(alloc, &words, &mut host) == Status::Done);
+        assert!(rt; host.output() == FIRST_OUTPUT);
+        assert!(rt; host.image(0).len() == 131072);
+        let mut again = outside(alloc, host.image(0), b"lidl 0\n".as_slice(), piece)?;
+        assert!(rt; run(alloc, &words, &mut again) == Status::Done);
+        assert!(rt;
+            again.output()
+                == b"0 READY site=1 epoch=2 spaces=0 indoubt=0\n1 OK clusters=64 free=60 spaces=0\n".as_slice()
+        );
+    }
+    Ok(())
+}
+
+#[test]
+fn refusals_come_in_their_order(rt: HostRuntime) -> Result<(), Fail> {
+    let alloc = rt.alloc();
+    let words = run_words(alloc)?;
+    let rows: [(&[u8], &[u8]); 7] = [
+        (b"".as_slice(), b"".as_slice()),
+        (b"lidl 0".as_slice(), b"1 NOTCREATED\n".as_slice()),
+        (
+            b"crdl 0 4".as_slice(),
+            b"1 RANGE field=clusters\n".as_slice(),
+        ),
+        (
+            b"crdl 0 64 site=0".as_slice(),
+            b"1 RANGE field=site\n".as_slice(),
+        ),
+        (
+            b"crdl 0 4 site=0".as_slice(),
+            b"1 RANGE field=clusters\n".as_slice(),
+        ),
+        (b"crdl 1 4".as_slice(), b"1 NODEVICE\n".as_slice()),
+        (
+            b"crdl 0 8192\ncrdl 0 4".as_slice(),
+            b"1 OK clusters=8192 free=8188\n2 EXISTS\n".as_slice(),
+        ),
+    ];
+    for (script, lines) in rows {
+        let mut host = outside(alloc, b"".as_slice(), script, 4)?;
+        assert!(rt; run(alloc, &words, &mut host) == Status::Done);
+        let mut expected = Vec::from_slice(
+            alloc,
+            b"0 READY site=- epoch=- spaces=0 indoubt=0\n".as_slice(),
+        )?;
+        expected.extend_from_slice(lines)?;
+        assert!(rt; host.output() == expected.as_slice());
+    }
+    Ok(())
+}
+
+// The machine's text of a script, from blank devices on.
+fn machine_text(alloc: Global, script: &[u8]) -> Result<Vec<u8>, AllocError> {
+    let mut machine = Machine::new(alloc, 1)?;
+    let mut text = tq_print::answer(alloc, 0, &machine.step(&Request::Boot)?)?;
+    let mut rest = script;
+    let mut number = 1u64;
+    while let Some((line, behind)) = first_line(rest) {
+        let answer = machine.step(&parse(alloc, line)?)?;
+        text.extend_from_slice(&tq_print::answer(alloc, number, &answer)?)?;
+        number = number.wrapping_add(1);
+        rest = behind;
+    }
+    Ok(text)
+}
+
+#[test]
+fn a_run_gives_the_machine_s_text(rt: HostRuntime) -> Result<(), Fail> {
+    let alloc = rt.alloc();
+    let words = run_words(alloc)?;
+    let script =
+        b"lidl 0\ncrdl 0 9000\ncrdl 0 5 site=4294967296\ncrdl 0 5 site=4294967295\nlidl 0\ncrdl 0 5\n\t\nlidl 7\nlidl 8\n\"#\"\n".as_slice();
+    let mut host = outside(alloc, b"".as_slice(), script, 5)?;
+    assert!(rt; run(alloc, &words, &mut host) == Status::Done);
+    assert!(rt; host.output() == machine_text(alloc, script)?.as_slice());
+    Ok(())
+}
+
+#[test]
+fn words_of_another_form_are_usage(rt: HostRuntime) -> Result<(), Fail> {
+    let alloc = rt.alloc();
+    let rows: [&[&str]; 7] = [
+        [].as_slice(),
+        ["run"].as_slice(),
+        ["run", ""].as_slice(),
+        ["run", "-x"].as_slice(),
+        ["walk", "dev0"].as_slice(),
+        ["", "dev0"].as_slice(),
+        ["run", "dev0", "dev1"].as_slice(),
+    ];
+    for row in rows {
+        let mut host = outside(alloc, b"".as_slice(), b"lidl 0\n".as_slice(), 9)?;
+        assert!(rt; run(alloc, &words_of(alloc, row)?, &mut host) == Status::Usage);
+        assert!(rt; host.output().is_empty());
+    }
+    Ok(())
+}
+
+// A device that was made in one run.
+fn made(alloc: Global) -> Result<Vec<u8>, AllocError> {
+    let mut host = outside(alloc, b"".as_slice(), b"crdl 0 64\n".as_slice(), 64)?;
+    let _status = run(alloc, &run_words(alloc)?, &mut host);
+    Vec::from_slice(alloc, host.image(0))
+}
+
+#[test]
+fn a_damaged_device_is_left_alone(rt: HostRuntime) -> Result<(), Fail> {
+    let alloc = rt.alloc();
+    let words = run_words(alloc)?;
+    let whole = made(alloc)?;
+    // an address, its byte, and whether the device still has a reading
+    let rows: [(usize, u8, bool); 14] = [
+        (0, 0, false),
+        (8, 1, false),
+        (19, 4, false),
+        (512, 2, true),
+        (512, 255, false),
+        (513, 2, true),
+        (513, 255, false),
+        (600, 9, true),
+        (1024, 0, false),
+        (1028, 255, false),
+        (1056, 1, false),
+        (82944, 0, false),
+        (82952, 1, false),
+        (83968, 79, false),
+    ];
+    for (address, byte, is_whole) in rows {
+        let mut image = Vec::from_slice(alloc, whole.as_slice())?;
+        assert!(rt; address < image.len());
+        image[address] = byte;
+        let mut host = outside(alloc, image.as_slice(), b"lidl 0\n".as_slice(), 9)?;
+        let status = run(alloc, &words, &mut host);
+        if is_whole {
+            assert!(rt; status == Status::Done, "at {address}");
+        } else {
+            assert!(rt; status == Status::Damaged(0), "at {address}");
+            assert!(rt; host.output().is_empty());
+            assert!(rt; host.image(0) == image.as_slice());
+        }
+    }
+    Ok(())
+}
+
+#[test]
+fn the_last_epoch_cannot_be_raised(rt: HostRuntime) -> Result<(), Fail> {
+    let alloc = rt.alloc();
+    let words = run_words(alloc)?;
+    let mut image = made(alloc)?;
+    assert!(rt; image.len() == 131072);
+    for (last, status) in [(254u8, Status::Done), (255, Status::Damaged(0))] {
+        image[82948] = 255;
+        image[82949] = 255;
+        image[82950] = 255;
+        image[82951] = last;
+        let mut host = outside(alloc, image.as_slice(), b"".as_slice(), 9)?;
+        assert!(rt; run(alloc, &words, &mut host) == status);
+    }
+    Ok(())
+}
+
+#[test]
+fn a_short_device_is_blank(rt: HostRuntime) -> Result<(), Fail> {
+    let alloc = rt.alloc();
+    let words = run_words(alloc)?;
+    let image = made(alloc)?;
+    assert!(rt; image.len() == 131072);
+    let mut host = outside(alloc, &image[..131071], b"lidl 0\n".as_slice(), 9)?;
+    assert!(rt; run(alloc, &words, &mut host) == Status::Done);
+    assert!(rt;
+        host.output() == b"0 READY site=- epoch=- spaces=0 indoubt=0\n1 NOTCREATED\n".as_slice()
+    );
+    Ok(())
+}
+
+#[test]
+fn each_failing_call_has_its_status(rt: HostRuntime) -> Result<(), Fail> {
+    let alloc = rt.alloc();
+    let words = run_words(alloc)?;
+    let rows = [
+        (CallKind::Attach, Status::DeviceFault),
+        (CallKind::Length, Status::DeviceFault),
+        (CallKind::SetLength, Status::DeviceFault),
+        (CallKind::Write, Status::DeviceFault),
+        (CallKind::Sync, Status::DeviceFault),
+        (CallKind::Take, Status::ReadFault),
+        (CallKind::Give, Status::WriteFault),
+    ];
+    for (kind, status) in rows {
+        let mut host = outside(alloc, b"".as_slice(), b"crdl 0 64\n".as_slice(), 64)?;
+        host.fail_kind(kind, 0)?;
+        assert!(rt; run(alloc, &words, &mut host) == status, "{kind:?}");
+    }
+    let mut host = outside(alloc, made(alloc)?.as_slice(), b"".as_slice(), 64)?;
+    host.fail_kind(CallKind::Read, 1)?;
+    assert!(rt; run(alloc, &words, &mut host) == Status::DeviceFault);
+    Ok(())
+}
+
+#[test]
+fn too_much_input_is_not_read(rt: HostRuntime) -> Result<(), Fail> {
+    let alloc = rt.alloc();
+    let words = run_words(alloc)?;
+    for (limit, status) in [
+        (6u64, Status::TooMuchInput),
+        (7, Status::TooMuchInput),
+        (8, Status::Done),
+    ] {
+        let mut host = outside(alloc, b"".as_slice(), b"lidl 0\n".as_slice(), 3)?;
+        assert!(rt; run_within(alloc, &words, &mut host, limit) == status);
+    }
+    Ok(())
+}
+
+#[test]
+fn a_run_goes_no_further_than_its_fuse(rt: HostRuntime) -> Result<(), Fail> {
+    let alloc = rt.alloc();
+    let words = run_words(alloc)?;
+    for calls in [0u64, 1, 2, 3, 5, 70, 139] {
+        let inner = outside(alloc, b"".as_slice(), b"crdl 0 64\n".as_slice(), 64)?;
+        let mut host = FuseHost::new(inner, calls);
+        assert!(rt; run(alloc, &words, &mut host) != Status::Done);
+        let inner = host.into_inner();
+        // what was left runs again, blank or made
+        let mut again = outside(alloc, inner.image(0), b"".as_slice(), 64)?;
+        assert!(rt; run(alloc, &words, &mut again) == Status::Done);
+    }
+    Ok(())
+}

@@ -1,0 +1,64 @@
+-- What was spelt is of the kinds that were asked for.
+use Rattle.std.proofs.Common.{◌≡◌, ℕ, ◌≤◌, leb, ◌&&◌, List, [], ◌∷◌, Option, Some, None, refl, inl, inr}
+use Rattle.std.proofs.lemmas.Bool.{cases_Bool, and_parts, leb-true}
+use Rattle.std.specs.List.{list_any}
+use Rattle.std.specs.Str.Parse.{digits_value}
+use Rattle.tq_model.specs.declared.grammar.Key.{Key}
+use Rattle.tq_model.specs.declared.grammar.Kind.{Kind}
+use Rattle.tq_model.specs.declared.grammar.Kind.TheVariants as kinds
+use Rattle.tq_model.specs.declared.grammar.Value.{Value}
+use Rattle.tq_model.specs.declared.grammar.Value.TheVariants.{Number}
+use Rattle.tq_model.specs.Grammar.{Word, KeyRow, Given, Scan, Misfit, Missing, Spelt, is_numeral, number_between, value_of, with_value, with_given, after_key, after_value, keyed_value, rows_without, scan, scan_keyed}
+use Rattle.tq_script.specs.Kinds.{IsOfKind, AreOfKinds}
+
+spelt-given : (g : Given) (s : Scan) (values : List Value) (given : List Given) → with_given g s ≡ Spelt values given → (rest : List Given) × (s ≡ Spelt values rest)
+spelt-given g (Misfit column) values given e = absurd (cc)
+spelt-given g Missing values given e = absurd (cc)
+spelt-given g (Spelt later_values rest) values given e = (rest, let same : later_values ≡ values = cc in rw same refl)
+
+spelt-value : (v : Value) (s : Scan) (values : List Value) (given : List Given) → with_value v s ≡ Spelt values given → (rest : List Value) × (values ≡ v ∷ rest) × (s ≡ Spelt rest given)
+spelt-value v (Misfit column) values given e = absurd (cc)
+spelt-value v Missing values given e = absurd (cc)
+spelt-value v (Spelt rest later_given) values given e = (rest, (let more : values ≡ v ∷ rest = cc in more), (let same : later_given ≡ given = cc in rw same refl))
+
+-- keyed words give no positional value
+keyed-values : (o : Option Given) (column : ℕ) (rest : Key → Scan) (step : (key : Key) (values : List Value) (given : List Given) → rest key ≡ Spelt values given → values ≡ []) →
+    (values : List Value) (given : List Given) → after_key o column rest ≡ Spelt values given → values ≡ []
+keyed-values None column rest step values given e = absurd (cc)
+keyed-values (Some g) column rest step values given e = let more = spelt-given g (rest g.key) values given e in step g.key values more.0 more.1
+
+scan_keyed-values : (rows : List KeyRow) (words : List Word) (values : List Value) (given : List Given) → scan_keyed rows words ≡ Spelt values given → values ≡ []
+scan_keyed-values rows [] values given e = elim (cases_Bool (list_any (λ (row : KeyRow). row.required) rows)) [
+  | inl h ↦ let missing : Missing ≡ Spelt values given = rw h at e in absurd (cc)
+  | inr h ↦ let spelt : Spelt [] [] ≡ Spelt values given = rw h at e in cc
+]
+scan_keyed-values rows (w ∷ words) values given e =
+    keyed-values (keyed_value rows w.bytes) w.column (λ key. scan_keyed (rows_without key rows) words)
+    (λ key later later_given same. scan_keyed-values (rows_without key rows) words later later_given same) values given e
+
+-- a value is of its kind
+number-between : (low high : ℕ) (word : List ℕ) (v : Value) → number_between low high word ≡ Some v → (n : ℕ) × (v ≡ Number n) × (n ≤ high)
+number-between low high word v e = elim (cases_Bool (is_numeral word && leb low (digits_value 10 word) && leb (digits_value 10 word) high)) [
+  | inl h ↦ let is : Some (Number (digits_value 10 word)) ≡ Some v = rw h at e in
+      (digits_value 10 word, (let same : v ≡ Number (digits_value 10 word) = cc in same), leb-true _ _ (and_parts _ _ h).1)
+  | inr h ↦ let none : Option Value = None in let is : none ≡ Some v = rw h at e in absurd (cc)
+]
+
+IsOfKind-value : (kind : Kind) (word : List ℕ) (v : Value) → value_of kind word ≡ Some v → IsOfKind kind v
+IsOfKind-value kinds.Device word v e = let is = number-between 0 7 word v e in rw is.1 is.2
+IsOfKind-value kinds.Number word v e = let is = number-between 0 18446744073709551615 word v e in rw is.1 is.2
+
+-- so are all
+after-kinds : (o : Option Value) (column : ℕ) (rest : Scan) (kind : Kind) (kinds : List Kind) → ((v : Value) → o ≡ Some v → IsOfKind kind v) →
+    ((values : List Value) (given : List Given) → rest ≡ Spelt values given → AreOfKinds kinds values) →
+    (values : List Value) (given : List Given) → after_value o column rest ≡ Spelt values given → AreOfKinds (kind ∷ kinds) values
+after-kinds None column rest kind kinds first later values given e = absurd (cc)
+after-kinds (Some v) column rest kind kinds first later values given e =
+    let more = spelt-value v rest values given e in rw more.1 (first v refl, later more.0 given more.2)
+
+pub AreOfKinds-scan : (kinds : List Kind) (rows : List KeyRow) (words : List Word) (values : List Value) (given : List Given) → scan kinds rows words ≡ Spelt values given → AreOfKinds kinds values
+AreOfKinds-scan [] rows words values given e = rw (scan_keyed-values rows words values given e) tt
+AreOfKinds-scan (kind ∷ kinds) rows [] values given e = absurd (cc)
+AreOfKinds-scan (kind ∷ kinds) rows (w ∷ words) values given e =
+    after-kinds (value_of kind w.bytes) w.column (scan kinds rows words) kind kinds (λ v same. IsOfKind-value kind w.bytes v same)
+    (λ later later_given same. AreOfKinds-scan kinds rows words later later_given same) values given e

@@ -1,0 +1,6 @@
+pub mod Cutting
+pub mod Kinds
+pub mod Numerals
+pub mod Places
+pub mod Reads
+pub mod Rows

@@ -1,0 +1,9 @@
+ghost use Rattle.std.specs.Prelude.{◌≡◌, ◌==◌};
+ghost use Rattle.std.specs.List.{position};
+
+/// The first place of the byte.
+pub fn position_of(byte: u8, bytes: &[u8]) -> Option<usize>
+    ensures { result ≡ position (λ b. b == byte) bytes.now }
+{
+    bytes.iter().position(|other| *other == byte)
+}

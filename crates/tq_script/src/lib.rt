@@ -1,0 +1,18 @@
+//! Reads the lines of a script: which requests they spell, and where a line that spells none goes
+//! wrong.
+#![tactic(auto)]
+
+mod bytes;
+mod cutting;
+mod keys;
+mod lines;
+mod numerals;
+mod reading;
+mod requests;
+mod table;
+#[cfg(test)]
+mod tests;
+mod unread;
+
+pub use lines::first_line;
+pub use requests::parse;
