@@ -25,9 +25,9 @@ total_inserted g n item more index [] = λ h. cc
 total_inserted g n item more index (q ∷ qs) =
     let before = total-cons g q qs in
     elim (has_index index q) as (λ b. b || list_any (has_index index) qs ≡ true
-        → total g (cond b (record q { queue = with_item item q.queue } ∷ qs) (q ∷ item_inserted index item qs)) ≡ total g (q ∷ qs) + n) [
-      true ↦ λ h. let after = total-cons g (record q { queue = with_item item q.queue }) qs in let one = more q.queue in omega arith
-    | false ↦ λ h. let after = total-cons g q (item_inserted index item qs) in let rest = total_inserted g n item more index qs h in omega arith
+    → total g (cond b (record q { queue = with_item item q.queue } ∷ qs) (q ∷ item_inserted index item qs)) ≡ total g (q ∷ qs) + n) [
+      | true ↦ λ h. let after = total-cons g (record q { queue = with_item item q.queue }) qs in let one = more q.queue in omega arith
+      | false ↦ λ h. let after = total-cons g q (item_inserted index item qs) in let rest = total_inserted g n item more index qs h in omega arith
     ]
 
 any-find : {X : Type 0} (p : X → Bool) (xs : List X) → list_any p xs ≡ is_some (find p xs)
@@ -43,9 +43,9 @@ pub removed_nothing : (id : MsgId) (qs : List IndexedQueue) → item_with_id id 
 removed_nothing id [] = λ h. refl
 removed_nothing id (q ∷ qs) =
     elim (holds_id id q.queue) as (λ b. b ≡ is_some (find (has_id id) q.queue.items) → cond b (find (has_id id) q.queue.items) (item_with_id id qs) ≡ None
-        → cond b (record q { queue = without_item id q.queue } ∷ qs) (q ∷ item_removed id qs) ≡ q ∷ qs) [
-      true ↦ λ some h. absurd (no-some (find (has_id id) q.queue.items) some h)
-    | false ↦ λ some h. ap (λ (l : List IndexedQueue). q ∷ l) (removed_nothing id qs h)
+    → cond b (record q { queue = without_item id q.queue } ∷ qs) (q ∷ item_removed id qs) ≡ q ∷ qs) [
+      | true ↦ λ some h. absurd (no-some (find (has_id id) q.queue.items) some h)
+      | false ↦ λ some h. ap (λ (l : List IndexedQueue). q ∷ l) (removed_nothing id qs h)
     ] (any-find (has_id id) q.queue.items)
 
 found-place : (p : Item → Bool) (xs : List Item) (item : Item) → find p xs ≡ Some item → (position_or_len p xs < length xs) × (get_or xs (position_or_len p xs) item ≡ item)
@@ -62,14 +62,14 @@ total_removed g w less id item [] = λ h. cc
 total_removed g w less id item (q ∷ qs) =
     let before = total-cons g q qs in
     elim (holds_id id q.queue) as (λ b. cond b (find (has_id id) q.queue.items) (item_with_id id qs) ≡ Some item
-        → total g (cond b (record q { queue = without_item id q.queue } ∷ qs) (q ∷ item_removed id qs)) + w item ≡ total g (q ∷ qs)) [
-      true ↦ λ h.
-        let place = found-place (has_id id) q.queue.items item h in
-        let after = total-cons g (record q { queue = without_item id q.queue }) qs in
-        let one = less q.queue (position_or_len (has_id id) q.queue.items) item place.0 in
-        let this : w (get_or q.queue.items (position_or_len (has_id id) q.queue.items) item) ≡ w item = ap w place.1 in
-        omega arith
-    | false ↦ λ h. let after = total-cons g q (item_removed id qs) in let rest = total_removed g w less id item qs h in omega arith
+    → total g (cond b (record q { queue = without_item id q.queue } ∷ qs) (q ∷ item_removed id qs)) + w item ≡ total g (q ∷ qs)) [
+      | true ↦ λ h.
+          let place = found-place (has_id id) q.queue.items item h in
+          let after = total-cons g (record q { queue = without_item id q.queue }) qs in
+          let one = less q.queue (position_or_len (has_id id) q.queue.items) item place.0 in
+          let this : w (get_or q.queue.items (position_or_len (has_id id) q.queue.items) item) ≡ w item = ap w place.1 in
+          omega arith
+      | false ↦ λ h. let after = total-cons g q (item_removed id qs) in let rest = total_removed g w less id item qs h in omega arith
     ]
 
 -- a queue without entries is added

@@ -7,15 +7,16 @@ use Rattle.std.proofs.lemmas.List.{get_or-map, length-map}
 use Rattle.std.proofs.lemmas.List.Elements.{All-map}
 use Rattle.std.proofs.lemmas.List.Sums.{sum_by-cons}
 use Rattle.tq_types.specs.declared.messages.Entry.{Entry}
-use Rattle.tq_model.specs.Space.{Item}
-use Rattle.tq_model.specs.Moves.{IndexedQueue, item_of, has_index}
+use Rattle.tq_types.specs.declared.identifiers.MsgId.{MsgId}
+use Rattle.tq_model.specs.Space.{Item, has_id}
+use Rattle.tq_model.specs.Moves.{IndexedQueue, item_of, has_index, item_with_id, indexed_holds}
 use Rattle.tq_space.specs.declared.shelf.HeldQueue.{HeldQueue}
 use Rattle.tq_space.specs.Slots.{slot_item, slot_at, item_at, slot_test, IsPlainSlot}
 use Rattle.tq_space.specs.Plain.{HasNoExpirations}
 use Rattle.tq_space.specs.Shelf.{indexed_at, IsListed}
 use Rattle.tq_space.specs.Reads.{indexed_named, HasDistinctIndices}
 use Rattle.tq_space.proofs.Places.{position_or_len-map, position-found, position-none, list_any-place, some-cond, find-at, find-none}
-use Rattle.tq_space.proofs.Keys.{hit, all_kept, place-items}
+use Rattle.tq_space.proofs.Keys.{hit, all_kept, place-items, first_holding, item_with_id-at}
 
 pub index_any : (slots : List (Option Entry)) (queues : List HeldQueue) (index : ℕ)
     → list_any (has_index index) (map (indexed_at slots) queues) ≡ is_some (position (λ q. q.index == index) queues)
@@ -68,7 +69,7 @@ module _ (slots : List (Option Entry)) (queues : List HeldQueue) (listed : IsLis
   lasting_seen =
       All-map (λ (q : IndexedQueue). All (λ (item : Item). item.letter.expiration ≡ None) q.queue.items) (indexed_at slots) queues
       (λ k d lt. All-map (λ (item : Item). item.letter.expiration ≡ None) (item_at slots) (get_or queues k d).keys.items
-        (λ j e inside. plain-lasts (slot_at slots (get_or (get_or queues k d).keys.items j e)) (listed.plain (get_or (get_or queues k d).keys.items j e))))
+      (λ j e inside. plain-lasts (slot_at slots (get_or (get_or queues k d).keys.items j e)) (listed.plain (get_or (get_or queues k d).keys.items j e))))
 
   module _ (test : Item → Bool) (at : ℕ) (d : HeldQueue) (is_d : d ≡ get_or queues at d) (within : at < length queues) where
     kept : All (λ k. is_some (slot_at slots k) ≡ true) d.keys.items
@@ -88,5 +89,19 @@ module _ (slots : List (Option Entry)) (queues : List HeldQueue) (listed : IsLis
         let there : is_some (slot_at slots key) ≡ true = subst (λ (k : ℕ). is_some (slot_at slots k) ≡ true) (sym is_key) (kept place key parts.1) in
         some-item (slot_at slots key) there
         ∙ sym (find-at test (item_at slots key) items (omega (arith, spot, parts.1, length-map d.keys.items (item_at slots)))
-          ∙ ap (λ (n : ℕ). Some (get_or items n (item_at slots key))) spot
-          ∙ ap Some (get_or-map (item_at slots) d.keys.items place key (item_at slots key) parts.1 ∙ ap (item_at slots) (sym is_key)))
+        ∙ ap (λ (n : ℕ). Some (get_or items n (item_at slots key))) spot
+        ∙ ap Some (get_or-map (item_at slots) d.keys.items place key (item_at slots key) parts.1 ∙ ap (item_at slots) (sym is_key)))
+
+  pub item_at_id : (id : MsgId) (at : ℕ) (d : HeldQueue) → d ≡ get_or queues at d
+      → position (λ (q : HeldQueue). is_some (position (λ k. slot_test (has_id id) (slot_at slots k)) q.keys.items)) queues ≡ Some at
+      → (place key : ℕ) → position (λ k. slot_test (has_id id) (slot_at slots k)) d.keys.items ≡ Some place → key ≡ get_or d.keys.items place key
+      → option_map item_of (slot_at slots key) ≡ item_with_id id (map (indexed_at slots) queues)
+  item_at_id id at d is_d holds place key found is_key =
+      let view = map (indexed_at slots) queues in
+      let parts = position-found (λ (x : HeldQueue). is_some (position (λ k. slot_test (has_id id) (slot_at slots k)) x.keys.items)) queues at holds in
+      let first : position_or_len (indexed_holds id) view ≡ at = first_holding slots queues listed id ∙ parts.0 in
+      let below : position_or_len (indexed_holds id) view < length view = omega (arith, first, parts.1, length-map queues (indexed_at slots)) in
+      let at_view : get_or view (position_or_len (indexed_holds id) view) (indexed_at slots d) ≡ indexed_at slots d =
+      ap (λ (n : ℕ). get_or view n (indexed_at slots d)) first ∙ get_or-map (indexed_at slots) queues at d (indexed_at slots d) parts.1 ∙ ap (indexed_at slots) (sym is_d) in
+      answer_at (has_id id) at d is_d parts.1 place key found is_key
+      ∙ sym (item_with_id-at id (indexed_at slots d) view below ∙ ap (λ (x : IndexedQueue). find (has_id id) x.queue.items) at_view)

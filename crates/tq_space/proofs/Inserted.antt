@@ -25,7 +25,7 @@ module _ (slots slots' : List (Option Entry)) (queues : List HeldQueue) (listed 
       let q = get_or queues at d in
       let whole = counted queues at d within q' k in
       let one : count_by (λ x. x == k) q'.keys.items ≡ count_by (λ x. x == k) q.keys.items + hit (key == k) =
-          ap (λ (keys : List ℕ). count_by (λ x. x == k) keys) keyed.keys_are ∙ sum_by-insert (λ (x : ℕ). hit (x == k)) q.keys.items place key in
+      ap (λ (keys : List ℕ). count_by (λ x. x == k) keys) keyed.keys_are ∙ sum_by-insert (λ (x : ℕ). hit (x == k)) q.keys.items place key in
       omega arith
 
   none_yet : key_count key queues ≡ 0
@@ -35,17 +35,17 @@ module _ (slots slots' : List (Option Entry)) (queues : List HeldQueue) (listed 
   keys_new k =
       by_key key k (key_count k (set queues at q') ≡ slot_count (slot_at slots' k))
       (λ same.
-        let one : hit (key == k) ≡ 1 = ap hit (eq-eqb key k same) in
-        let none : key_count k queues ≡ 0 = subst (λ (x : ℕ). key_count x queues ≡ 0) same none_yet in
-        let there : slot_count (slot_at slots' k) ≡ 1 = ap (λ (x : ℕ). slot_count (slot_at slots' x)) (sym same) ∙ ap slot_count stored in
-        let all = count_new k in
-        omega arith)
+      let one : hit (key == k) ≡ 1 = ap hit (eq-eqb key k same) in
+      let none : key_count k queues ≡ 0 = subst (λ (x : ℕ). key_count x queues ≡ 0) same none_yet in
+      let there : slot_count (slot_at slots' k) ≡ 1 = ap (λ (x : ℕ). slot_count (slot_at slots' x)) (sym same) ∙ ap slot_count stored in
+      let all = count_new k in
+      omega arith)
       (λ differs no.
-        let zero : hit (key == k) ≡ 0 = ap hit no in
-        let there : slot_count (slot_at slots' k) ≡ slot_count (slot_at slots k) = ap slot_count (others k differs) in
-        let before = listed.keys k in
-        let all = count_new k in
-        omega arith)
+      let zero : hit (key == k) ≡ 0 = ap hit no in
+      let there : slot_count (slot_at slots' k) ≡ slot_count (slot_at slots k) = ap slot_count (others k differs) in
+      let before = listed.keys k in
+      let all = count_new k in
+      omega arith)
 
   plain_new : (k : ℕ) → IsPlainSlot (slot_at slots' k)
   plain_new k =
@@ -82,10 +82,10 @@ module _ (slots slots' : List (Option Entry)) (queues : List HeldQueue) (listed 
       let q = get_or queues at d in
       let view = map (indexed_at slots) queues in
       let first : position_or_len (has_index index) view ≡ at =
-          position_or_len-map (indexed_at slots) (has_index index) queues ∙ (position-found (λ (x : HeldQueue). x.index == index) queues at found).0 in
+      position_or_len-map (indexed_at slots) (has_index index) queues ∙ (position-found (λ (x : HeldQueue). x.index == index) queues at found).0 in
       let there : get_or view at (indexed_at slots d) ≡ indexed_at slots q = get_or-map (indexed_at slots) queues at d (indexed_at slots d) within in
       let spot : place ≡ position_or_len (stands_before q.def.order (item_of e)) (map (item_at slots) q.keys.items) =
-          is_place ∙ sym (place-items slots (label_before q.def.order e.label) q.keys.items (all_kept slots queues listed at d within)) in
+      is_place ∙ sym (place-items slots (label_before q.def.order e.label) q.keys.items (all_kept slots queues listed at d within)) in
       seen_new
       ∙ (λ i. set view at (record { index = q.index; queue = queue_of q.def (insert (map (item_at slots) q.keys.items) (spot i) (item_of e)) }))
       ∙ (λ i. set view (sym first i) (on_queue (with_item (item_of e)) (sym there i)))

@@ -84,9 +84,9 @@ item_with_id-at id d (q ∷ qs) =
     let n = position_or_len (indexed_holds id) qs in
     let step : 1 + n ≡ suc n = omega arith in
     elim (indexed_holds id q) as (λ b. cond (not b) (1 + n) 0 < suc (length qs)
-        → cond b (find (has_id id) q.queue.items) (item_with_id id qs) ≡ find (has_id id) (get_or (q ∷ qs) (cond (not b) (1 + n) 0) d).queue.items) [
-      true ↦ λ within. refl
-    | false ↦ λ within. rw step (item_with_id-at id d qs (omega arith))
+    → cond b (find (has_id id) q.queue.items) (item_with_id id qs) ≡ find (has_id id) (get_or (q ∷ qs) (cond (not b) (1 + n) 0) d).queue.items) [
+      | true ↦ λ within. refl
+      | false ↦ λ within. rw step (item_with_id-at id d qs (omega arith))
     ]
 
 pub item_with_id-past : (id : MsgId) (qs : List IndexedQueue) → length qs ≤ position_or_len (indexed_holds id) qs → item_with_id id qs ≡ None
@@ -94,8 +94,8 @@ item_with_id-past id [] = λ past. refl
 item_with_id-past id (q ∷ qs) =
     let n = position_or_len (indexed_holds id) qs in
     elim (indexed_holds id q) as (λ b. suc (length qs) ≤ cond (not b) (1 + n) 0 → cond b (find (has_id id) q.queue.items) (item_with_id id qs) ≡ None) [
-      true ↦ λ past. absurd (omega arith)
-    | false ↦ λ past. item_with_id-past id qs (omega arith)
+      | true ↦ λ past. absurd (omega arith)
+      | false ↦ λ past. item_with_id-past id qs (omega arith)
     ]
 
 module _ (slots : List (Option Entry)) (queues : List HeldQueue) (listed : IsListed slots queues) where
@@ -124,14 +124,14 @@ module _ (slots : List (Option Entry)) (queues : List HeldQueue) (listed : IsLis
   nothing_held id none =
       change_first-past (indexed_holds id) (on_queue (without_item id)) (map (indexed_at slots) queues)
       (let past = position-none (λ (q : HeldQueue). is_some (position (λ k. slot_test (has_id id) (slot_at slots k)) q.keys.items)) queues none in
-        omega (arith, first_holding id, length-map queues (indexed_at slots)))
+      omega (arith, first_holding id, length-map queues (indexed_at slots)))
 
   pub no_item_held : (id : MsgId) → position (λ (q : HeldQueue). is_some (position (λ k. slot_test (has_id id) (slot_at slots k)) q.keys.items)) queues ≡ None
       → item_with_id id (map (indexed_at slots) queues) ≡ None
   no_item_held id none =
       item_with_id-past id (map (indexed_at slots) queues)
       (let past = position-none (λ (q : HeldQueue). is_some (position (λ k. slot_test (has_id id) (slot_at slots k)) q.keys.items)) queues none in
-        omega (arith, first_holding id, length-map queues (indexed_at slots)))
+      omega (arith, first_holding id, length-map queues (indexed_at slots)))
 
 -- ---- an entry changes at a key that is not listed
 
@@ -172,6 +172,6 @@ module _ (queues : List HeldQueue) (at : ℕ) (d : HeldQueue) (within : at < len
 pub by_key : (key k : ℕ) (P : Type 0) → (key ≡ k → P) → (k ≢ key → (key == k) ≡ false → P) → P
 by_key key k P same other =
     elim (key == k) as (λ b. (key == k) ≡ b → P) [
-      true ↦ λ e. same (eqb-true key k e)
-    | false ↦ λ e. other (λ h. let t = eq-eqb key k (sym h) in cc) e
+      | true ↦ λ e. same (eqb-true key k e)
+      | false ↦ λ e. other (λ h. let t = eq-eqb key k (sym h) in cc) e
     ] refl

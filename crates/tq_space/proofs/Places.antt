@@ -1,7 +1,6 @@
 -- First places in lists.
 use Rattle.std.proofs.Common.{suc, inl, inr, ◌≡◌, ◌≢◌, ℕ, ◌+◌, ◌<◌, ◌≤◌, Bool, true, false, cond, not, ◌||◌, List, [], ◌∷◌, ◌++◌, map, length, get_or, set, take, drop, refl, sym, ap, ◌∙◌, subst, arith, Option, Some, None, ltb, ltb-true, ltb-false, lt-ltb, le-ltb, unwrap_or}
 use Rattle.std.specs.Prelude.{is_some}
-
 use Rattle.std.specs.List.{All, list_any, find, position, position_or_len, insert, remove, sum_by}
 use Rattle.std.proofs.lemmas.List.{map-append, take-map, drop-map, get_or-map}
 use Rattle.std.proofs.lemmas.List.Elements.{All-head, All-tail}
@@ -35,15 +34,15 @@ change_first-at test f d (x ∷ xs) =
     let step : 1 + n ≡ suc n = omega arith in
     let further : x ∷ change_first test f xs ≡ set (x ∷ xs) (1 + n) (f (get_or (x ∷ xs) (1 + n) d)) = rw step (ap (λ l. x ∷ l) rest) in
     elim (test x) as (λ b. cond b (f x ∷ xs) (x ∷ change_first test f xs) ≡ set (x ∷ xs) (cond (not b) (1 + n) 0) (f (get_or (x ∷ xs) (cond (not b) (1 + n) 0) d))) [
-      true ↦ refl
-    | false ↦ further
+      | true ↦ refl
+      | false ↦ further
     ]
 
 ltb-suc : (a b : ℕ) → ltb a b ≡ ltb (suc a) (suc b)
 ltb-suc a b =
     elim (ltb a b) as (λ t. ltb a b ≡ t → t ≡ ltb (suc a) (suc b)) [
-      true ↦ λ e. let below = ltb-true a b e in sym (lt-ltb (suc a) (suc b) (omega arith))
-    | false ↦ λ e. let past = ltb-false a b e in sym (le-ltb (suc a) (suc b) (omega arith))
+      | true ↦ λ e. let below = ltb-true a b e in sym (lt-ltb (suc a) (suc b) (omega arith))
+      | false ↦ λ e. let past = ltb-false a b e in sym (le-ltb (suc a) (suc b) (omega arith))
     ] refl
 
 pub list_any-place : {X : Type 0} (test : X → Bool) (xs : List X) → list_any test xs ≡ ltb (position_or_len test xs) (length xs)
@@ -54,8 +53,8 @@ list_any-place test (x ∷ xs) =
     let further : list_any test xs ≡ ltb (1 + n) (suc (length xs)) = rw step (list_any-place test xs ∙ ltb-suc n (length xs)) in
     let first : true ≡ ltb 0 (suc (length xs)) = sym (lt-ltb 0 (suc (length xs)) (omega arith)) in
     elim (test x) as (λ b. b || list_any test xs ≡ ltb (cond (not b) (1 + n) 0) (suc (length xs))) [
-      true ↦ first
-    | false ↦ further
+      | true ↦ first
+      | false ↦ further
     ]
 
 pub map-insert : {X Y : Type 0} (f : X → Y) (xs : List X) (i : ℕ) (x : X) → map f (insert xs i x) ≡ insert (map f xs) i (f x)
@@ -90,8 +89,8 @@ position-none test xs h = ltb-false (position_or_len test xs) (length xs) (none-
 pub position-or : {X : Type 0} (test : X → Bool) (xs : List X) → unwrap_or (position test xs) (length xs) ≡ position_or_len test xs
 position-or test xs =
     elim (ltb (position_or_len test xs) (length xs)) as (λ b. ltb (position_or_len test xs) (length xs) ≡ b → unwrap_or (cond b (Some (position_or_len test xs)) None) (length xs) ≡ position_or_len test xs) [
-      true ↦ λ e. refl
-    | false ↦ λ e. let past = ltb-false (position_or_len test xs) (length xs) e in let within = position_or_len-within test xs in omega arith
+      | true ↦ λ e. refl
+      | false ↦ λ e. let past = ltb-false (position_or_len test xs) (length xs) e in let within = position_or_len-within test xs in omega arith
     ] refl
 
 pub find-at : {X : Type 0} (test : X → Bool) (d : X) (xs : List X) → position_or_len test xs < length xs → find test xs ≡ Some (get_or xs (position_or_len test xs) d)
@@ -100,8 +99,8 @@ find-at test d (x ∷ xs) =
     let n = position_or_len test xs in
     let step : 1 + n ≡ suc n = omega arith in
     elim (test x) as (λ b. cond (not b) (1 + n) 0 < suc (length xs) → cond b (Some x) (find test xs) ≡ Some (get_or (x ∷ xs) (cond (not b) (1 + n) 0) d)) [
-      true ↦ λ within. refl
-    | false ↦ λ within. rw step (find-at test d xs (omega arith))
+      | true ↦ λ within. refl
+      | false ↦ λ within. rw step (find-at test d xs (omega arith))
     ]
 
 pub find-none : {X : Type 0} (test : X → Bool) (xs : List X) → length xs ≤ position_or_len test xs → find test xs ≡ None
@@ -109,8 +108,8 @@ find-none test [] = λ past. refl
 find-none test (x ∷ xs) =
     let n = position_or_len test xs in
     elim (test x) as (λ b. suc (length xs) ≤ cond (not b) (1 + n) 0 → cond b (Some x) (find test xs) ≡ None) [
-      true ↦ λ past. absurd (omega arith)
-    | false ↦ λ past. find-none test xs (omega arith)
+      | true ↦ λ past. absurd (omega arith)
+      | false ↦ λ past. find-none test xs (omega arith)
     ]
 
 -- a change past the end changes nothing
@@ -119,6 +118,6 @@ change_first-past test f [] = λ past. refl
 change_first-past test f (x ∷ xs) =
     let n = position_or_len test xs in
     elim (test x) as (λ b. suc (length xs) ≤ cond (not b) (1 + n) 0 → cond b (f x ∷ xs) (x ∷ change_first test f xs) ≡ x ∷ xs) [
-      true ↦ λ past. absurd (omega arith)
-    | false ↦ λ past. ap (λ l. x ∷ l) (change_first-past test f xs (omega arith))
+      | true ↦ λ past. absurd (omega arith)
+      | false ↦ λ past. ap (λ l. x ∷ l) (change_first-past test f xs (omega arith))
     ]

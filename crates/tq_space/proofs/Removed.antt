@@ -33,18 +33,18 @@ module _ (slots slots' : List (Option Entry)) (queues : List HeldQueue) (listed 
   keys_new k =
       by_key key k (key_count k (set queues at q') ≡ slot_count (slot_at slots' k))
       (λ same.
-        let one : hit (key == k) ≡ 1 = ap hit (eq-eqb key k same) in
-        let most = count-most (slot_at slots k) in
-        let before = listed.keys k in
-        let there : slot_count (slot_at slots' k) ≡ 0 = ap (λ (x : ℕ). slot_count (slot_at slots' x)) (sym same) ∙ ap slot_count gone in
-        let all = count_new k in
-        omega arith)
+      let one : hit (key == k) ≡ 1 = ap hit (eq-eqb key k same) in
+      let most = count-most (slot_at slots k) in
+      let before = listed.keys k in
+      let there : slot_count (slot_at slots' k) ≡ 0 = ap (λ (x : ℕ). slot_count (slot_at slots' x)) (sym same) ∙ ap slot_count gone in
+      let all = count_new k in
+      omega arith)
       (λ differs no.
-        let zero : hit (key == k) ≡ 0 = ap hit no in
-        let there : slot_count (slot_at slots' k) ≡ slot_count (slot_at slots k) = ap slot_count (others k differs) in
-        let before = listed.keys k in
-        let all = count_new k in
-        omega arith)
+      let zero : hit (key == k) ≡ 0 = ap hit no in
+      let there : slot_count (slot_at slots' k) ≡ slot_count (slot_at slots k) = ap slot_count (others k differs) in
+      let before = listed.keys k in
+      let all = count_new k in
+      omega arith)
 
   plain_new : (k : ℕ) → IsPlainSlot (slot_at slots' k)
   plain_new k =
@@ -65,7 +65,7 @@ module _ (slots slots' : List (Option Entry)) (queues : List HeldQueue) (listed 
       let q = get_or queues at d in
       let none : key_count key (set queues at q') ≡ 0 = keys_new key ∙ ap slot_count gone in
       let items : map (item_at slots) q'.keys.items ≡ remove (map (item_at slots) q.keys.items) place =
-          ap (λ (l : List ℕ). map (item_at slots) l) keyed.keys_are ∙ map-remove (item_at slots) q.keys.items place in
+      ap (λ (l : List ℕ). map (item_at slots) l) keyed.keys_are ∙ map-remove (item_at slots) q.keys.items place in
       frame slots slots' key others (set queues at q') none ∙ map-set (indexed_at slots) queues at q'
       ∙ λ i. set (map (indexed_at slots) queues) at (record { index = keyed.index i; queue = queue_of (keyed.def i) (items i) })
 
@@ -78,12 +78,12 @@ module _ (slots slots' : List (Option Entry)) (queues : List HeldQueue) (listed 
       let view = map (indexed_at slots) queues in
       let items = map (item_at slots) q.keys.items in
       let first : position_or_len (indexed_holds id) view ≡ at =
-          first_holding slots queues listed id
-          ∙ (position-found (λ (x : HeldQueue). is_some (position (λ k. slot_test (has_id id) (slot_at slots k)) x.keys.items)) queues at holds).0 in
+      first_holding slots queues listed id
+      ∙ (position-found (λ (x : HeldQueue). is_some (position (λ k. slot_test (has_id id) (slot_at slots k)) x.keys.items)) queues at holds).0 in
       let there : get_or view at (indexed_at slots d) ≡ indexed_at slots q = get_or-map (indexed_at slots) queues at d (indexed_at slots d) within in
       let spot : place ≡ position_or_len (has_id id) items =
-          sym (position-found (λ (k : ℕ). slot_test (has_id id) (slot_at slots k)) q.keys.items place found).0
-          ∙ sym (place-items slots (has_id id) q.keys.items (all_kept slots queues listed at d within)) in
+      sym (position-found (λ (k : ℕ). slot_test (has_id id) (slot_at slots k)) q.keys.items place found).0
+      ∙ sym (place-items slots (has_id id) q.keys.items (all_kept slots queues listed at d within)) in
       seen_new
       ∙ (λ i. set view at (record { index = q.index; queue = queue_of q.def (remove items (spot i)) }))
       ∙ (λ i. set view (sym first i) (on_queue (without_item id) (sym there i)))
@@ -105,19 +105,19 @@ module _ (slots slots' : List (Option Entry)) (queues : List HeldQueue) (listed 
       let kept = all_kept slots queues listed at d within in
       let there : is_some (slot_at slots key) ≡ true = subst (λ (k : ℕ). is_some (slot_at slots k) ≡ true) (sym is_key) (kept place key inside) in
       let first : position_or_len (indexed_holds id) view ≡ at =
-          first_holding slots queues listed id
-          ∙ (position-found (λ (x : HeldQueue). is_some (position (λ k. slot_test (has_id id) (slot_at slots k)) x.keys.items)) queues at holds).0 in
+      first_holding slots queues listed id
+      ∙ (position-found (λ (x : HeldQueue). is_some (position (λ k. slot_test (has_id id) (slot_at slots k)) x.keys.items)) queues at holds).0 in
       let below : position_or_len (indexed_holds id) view < length view = omega (arith, first, within, length-map queues (indexed_at slots)) in
       let at_view : get_or view (position_or_len (indexed_holds id) view) (indexed_at slots d) ≡ indexed_at slots q =
-          ap (λ (n : ℕ). get_or view n (indexed_at slots d)) first ∙ get_or-map (indexed_at slots) queues at d (indexed_at slots d) within in
+      ap (λ (n : ℕ). get_or view n (indexed_at slots d)) first ∙ get_or-map (indexed_at slots) queues at d (indexed_at slots d) within in
       let spot : position_or_len (has_id id) items ≡ place =
-          place-items slots (has_id id) q.keys.items kept ∙ (position-found (λ (k : ℕ). slot_test (has_id id) (slot_at slots k)) q.keys.items place found).0 in
+      place-items slots (has_id id) q.keys.items kept ∙ (position-found (λ (k : ℕ). slot_test (has_id id) (slot_at slots k)) q.keys.items place found).0 in
       let in_items : position_or_len (has_id id) items < length items = omega (arith, spot, inside, length-map q.keys.items (item_at slots)) in
       let item : get_or items place (item_at slots key) ≡ item_at slots key =
-          get_or-map (item_at slots) q.keys.items place key (item_at slots key) inside ∙ ap (item_at slots) (sym is_key) in
+      get_or-map (item_at slots) q.keys.items place key (item_at slots key) inside ∙ ap (item_at slots) (sym is_key) in
       some-item (slot_at slots key) there
       ∙ sym (item_with_id-at id (indexed_at slots d) view below
-        ∙ ap (λ (x : IndexedQueue). find (has_id id) x.queue.items) at_view
-        ∙ find-at (has_id id) (item_at slots key) items in_items
-        ∙ ap (λ (n : ℕ). Some (get_or items n (item_at slots key))) spot
-        ∙ ap Some item)
+      ∙ ap (λ (x : IndexedQueue). find (has_id id) x.queue.items) at_view
+      ∙ find-at (has_id id) (item_at slots key) items in_items
+      ∙ ap (λ (n : ℕ). Some (get_or items n (item_at slots key))) spot
+      ∙ ap Some item)

@@ -115,10 +115,10 @@ grown_set a b at q q' grown within is_q more = record {
   each = λ k d lt.
       by_key at k (IsGrown (get_or a k d) (get_or (set b at q') k d))
       (λ same.
-        let here : get_or (set b at q') k d ≡ q' = subst (λ (n : ℕ). get_or (set b at q') n d ≡ q') same (get_or-set_same b at q' d within) in
-        let was : q ≡ get_or b k d = is_q ∙ get_or_default b at q d within ∙ ap (λ (n : ℕ). get_or b n d) same in
-        let less : IsGrown (get_or a k d) q = subst (IsGrown (get_or a k d)) (sym was) (grown.each k d lt) in
-        subst (IsGrown (get_or a k d)) (sym here) (grown_twice (get_or a k d) q q' less more))
+      let here : get_or (set b at q') k d ≡ q' = subst (λ (n : ℕ). get_or (set b at q') n d ≡ q') same (get_or-set_same b at q' d within) in
+      let was : q ≡ get_or b k d = is_q ∙ get_or_default b at q d within ∙ ap (λ (n : ℕ). get_or b n d) same in
+      let less : IsGrown (get_or a k d) q = subst (IsGrown (get_or a k d)) (sym was) (grown.each k d lt) in
+      subst (IsGrown (get_or a k d)) (sym here) (grown_twice (get_or a k d) q q' less more))
       (λ differs no. subst (IsGrown (get_or a k d)) (sym (get_or-set_other b at k q' d differs)) (grown.each k d lt));
 }
 
@@ -131,10 +131,10 @@ module _ (a b : List HeldQueue) (grown : AreGrown a b) where
   map_grown f same =
       same_lists (map f a) (map f b) (length-map a f ∙ sym grown.long ∙ sym (length-map b f))
       (λ k d lt.
-        let below : k < length a = omega (arith, length-map a f) in
-        let below' : k < length b = omega (arith, grown.long) in
-        some_first a k below (get_or (map f a) k d ≡ get_or (map f b) k d)
-        (λ x. get_or-map f a k x d below ∙ same (get_or a k x) (get_or b k x) (grown.each k x below) ∙ sym (get_or-map f b k x d below')))
+      let below : k < length a = omega (arith, length-map a f) in
+      let below' : k < length b = omega (arith, grown.long) in
+      some_first a k below (get_or (map f a) k d ≡ get_or (map f b) k d)
+      (λ x. get_or-map f a k x d below ∙ same (get_or a k x) (get_or b k x) (grown.each k x below) ∙ sym (get_or-map f b k x d below')))
 
   sum_grown : (f : HeldQueue → ℕ) → ((q q' : HeldQueue) → IsGrown q q' → f q ≡ f q') → sum_by f a ≡ sum_by f b
   sum_grown f same = sym (sum-map f a) ∙ ap sum (map_grown f same) ∙ sum-map f b
@@ -167,8 +167,8 @@ count_none p [] = λ h. refl
 count_none p (x ∷ xs) =
     let sum : count_by p (x ∷ xs) ≡ hit (p x) + count_by p xs = sum_by-cons (λ y. cond (p y) 1 0) x xs in
     elim (p x) as (λ b. count_by p (x ∷ xs) ≡ hit b + count_by p xs → b || list_any p xs ≡ false → count_by p (x ∷ xs) ≡ 0) [
-      true ↦ λ s h. cc
-    | false ↦ λ s h. let rest = count_none p xs h in omega arith
+      | true ↦ λ s h. cc
+      | false ↦ λ s h. let rest = count_none p xs h in omega arith
     ] sum
 
 any_map : {X Y : Type 0} (f : X → Y) (p : Y → Bool) (xs : List X) → list_any p (map f xs) ≡ list_any (λ x. p (f x)) xs
@@ -191,13 +191,13 @@ module _ (slots : List (Option Entry)) (queues : List HeldQueue) (listed : IsLis
         let here : hit (q.index == i) ≡ hit (index == i) = ap (λ (n : ℕ). hit (n == i)) is_index in
         by_key index i (count_by (λ x. x.index == i) (insert queues place q) ≤ 1)
         (λ same.
-          let yes : hit (index == i) ≡ 1 = ap hit (eq-eqb index i same) in
-          let no : count_by (λ (x : HeldQueue). x.index == index) queues ≡ 0 = count_none (λ (x : HeldQueue). x.index == index) queues (sym (any_map (indexed_at slots) (has_index index) queues) ∙ new) in
-          let none : count_by (λ (x : HeldQueue). x.index == i) queues ≡ 0 = subst (λ (n : ℕ). count_by (λ (x : HeldQueue). x.index == n) queues ≡ 0) same no in
-          omega arith)
+        let yes : hit (index == i) ≡ 1 = ap hit (eq-eqb index i same) in
+        let no : count_by (λ (x : HeldQueue). x.index == index) queues ≡ 0 = count_none (λ (x : HeldQueue). x.index == index) queues (sym (any_map (indexed_at slots) (has_index index) queues) ∙ new) in
+        let none : count_by (λ (x : HeldQueue). x.index == i) queues ≡ 0 = subst (λ (n : ℕ). count_by (λ (x : HeldQueue). x.index == n) queues ≡ 0) same no in
+        omega arith)
         (λ differs not_equal.
-          let zero : hit (index == i) ≡ 0 = ap hit not_equal in
-          omega arith);
+        let zero : hit (index == i) ≡ 0 = ap hit not_equal in
+        omega arith);
     plain = listed.plain;
   }
 
@@ -206,7 +206,7 @@ module _ (slots : List (Option Entry)) (queues : List HeldQueue) (listed : IsLis
   added_seen is_place =
       map-insert (indexed_at slots) queues place q
       ∙ λ i. insert (map (indexed_at slots) queues) ((is_place ∙ sym (position_or_len-map (indexed_at slots) (comes_before d.name) queues)) i)
-          (record { index = is_index i; queue = queue_of (is_def i) (map (item_at slots) (is_empty i)) })
+      (record { index = is_index i; queue = queue_of (is_def i) (map (item_at slots) (is_empty i)) })
 
 pub room_added : (queues : List HeldQueue) (place n : ℕ) (q : HeldQueue) → HasRoomIn n queues → vec_len q.keys ≤ vec_capacity q.keys → HasRoomIn 0 (insert queues place q)
 room_added queues place n q room here =

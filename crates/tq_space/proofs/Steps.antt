@@ -49,7 +49,7 @@ purged_queues t (q ∷ qs) h =
     let first = All-head P q qs h in
     let rest = purged_queues t qs (All-tail P q qs h) in
     let items : filter (λ (item : Item). not (is_expired t item)) q.queue.items ≡ q.queue.items =
-        filter_kept (λ (item : Item). not (is_expired t item)) q.queue.items (λ k d lt. stays t (get_or q.queue.items k d) (first k d lt)) in
+    filter_kept (λ (item : Item). not (is_expired t item)) q.queue.items (λ k d lt. stays t (get_or q.queue.items k d) (first k d lt)) in
     λ i. record q.queue { items = items i } ∷ rest i
 
 pub purged_same : (t : ℕ) (s : IndexedSpace) → HasNoExpirations s.queues → purged t (space_of s) ≡ space_of s
@@ -61,8 +61,8 @@ find-map : {X Y : Type 0} (f : X → Y) (p : Y → Bool) (xs : List X) → find 
 find-map f p [] = refl
 find-map f p (x ∷ xs) =
     elim (p (f x)) as (λ b. cond b (Some (f x)) (find p (map f xs)) ≡ option_map f (cond b (Some x) (find (λ y. p (f y)) xs))) [
-      true ↦ refl
-    | false ↦ find-map f p xs
+      | true ↦ refl
+      | false ↦ find-map f p xs
     ]
 
 or_true : (b : Bool) → b || true ≡ true
@@ -77,10 +77,10 @@ found_any : (name : List ℕ) (q : IndexedQueue) (qs : List IndexedQueue) → fi
 found_any name q [] = λ h. cc
 found_any name q (x ∷ xs) =
     elim (indexed_named name x) as (λ b. cond b (Some x) (find (indexed_named name) xs) ≡ Some q → has_index q.index x || list_any (has_index q.index) xs ≡ true) [
-      true ↦ λ h.
-        let same : x ≡ q = cc in
-        ap (λ (b : Bool). b || list_any (has_index q.index) xs) (eq-eqb x.index q.index (ap (λ (y : IndexedQueue). y.index) same))
-    | false ↦ λ h. ap (λ (b : Bool). has_index q.index x || b) (found_any name q xs h) ∙ or_true (has_index q.index x)
+      | true ↦ λ h.
+          let same : x ≡ q = cc in
+          ap (λ (b : Bool). b || list_any (has_index q.index) xs) (eq-eqb x.index q.index (ap (λ (y : IndexedQueue). y.index) same))
+      | false ↦ λ h. ap (λ (b : Bool). has_index q.index x || b) (found_any name q xs h) ∙ or_true (has_index q.index x)
     ]
 
 any_count : (p : IndexedQueue → Bool) (xs : List IndexedQueue) → list_any p xs ≡ true → 1 ≤ count_by p xs
@@ -88,8 +88,8 @@ any_count p [] = λ h. cc
 any_count p (x ∷ xs) =
     let sum : count_by p (x ∷ xs) ≡ hit (p x) + count_by p xs = sum_by-cons (λ y. hit (p y)) x xs in
     elim (p x) as (λ b. count_by p (x ∷ xs) ≡ hit b + count_by p xs → b || list_any p xs ≡ true → 1 ≤ count_by p (x ∷ xs)) [
-      true ↦ λ s h. omega arith
-    | false ↦ λ s h. let rest = any_count p xs h in omega arith
+      | true ↦ λ s h. omega arith
+      | false ↦ λ s h. let rest = any_count p xs h in omega arith
     ] sum
 
 change_named : (name : List ℕ) (f : Queue → Queue) (q : IndexedQueue) (qs : List IndexedQueue) → HasDistinctIndices qs → find (indexed_named name) qs ≡ Some q
@@ -100,15 +100,15 @@ change_named name f q (x ∷ xs) distinct =
     let rest : HasDistinctIndices xs = λ i. let s = sum i in let most = distinct i in omega arith in
     let choice = λ (b : Bool). map the_queue (cond b (on_queue f x ∷ xs) (x ∷ change_first (has_index q.index) (on_queue f) xs)) in
     elim (indexed_named name x) as (λ b. cond b (Some x) (find (indexed_named name) xs) ≡ Some q
-        → choice (has_index q.index x) ≡ cond b (f x.queue ∷ map the_queue xs) (x.queue ∷ change_first (is_named name) f (map the_queue xs))) [
-      true ↦ λ h.
-        let same : x ≡ q = cc in
-        ap choice (eq-eqb x.index q.index (ap (λ (y : IndexedQueue). y.index) same))
-    | false ↦ λ h.
-        let once = any_count (has_index q.index) xs (found_any name q xs h) in
-        let most = distinct q.index in
-        let s = sum q.index in
-        ap choice (hit_zero (has_index q.index x) (omega arith)) ∙ ap (λ (l : List Queue). x.queue ∷ l) (change_named name f q xs rest h)
+    → choice (has_index q.index x) ≡ cond b (f x.queue ∷ map the_queue xs) (x.queue ∷ change_first (is_named name) f (map the_queue xs))) [
+      | true ↦ λ h.
+          let same : x ≡ q = cc in
+          ap choice (eq-eqb x.index q.index (ap (λ (y : IndexedQueue). y.index) same))
+      | false ↦ λ h.
+          let once = any_count (has_index q.index) xs (found_any name q xs h) in
+          let most = distinct q.index in
+          let s = sum q.index in
+          ap choice (hit_zero (has_index q.index x) (omega arith)) ∙ ap (λ (l : List Queue). x.queue ∷ l) (change_named name f q xs rest h)
     ]
 
 -- ---- room
@@ -116,12 +116,12 @@ change_named name f q (x ∷ xs) distinct =
 no_lack : (a b : Lack) → first_lacking (a ∷ b ∷ []) ≡ None → (a.need + a.held ≤ a.limit) × (b.need + b.held ≤ b.limit)
 no_lack a b =
     elim (is_lacking a) as (λ t. is_lacking a ≡ t → cond t (Some a) (cond (is_lacking b) (Some b) None) ≡ None → (a.need + a.held ≤ a.limit) × (b.need + b.held ≤ b.limit)) [
-      true ↦ λ e h. cc
-    | false ↦ λ e.
-        elim (is_lacking b) as (λ t. is_lacking b ≡ t → cond t (Some b) None ≡ None → (a.need + a.held ≤ a.limit) × (b.need + b.held ≤ b.limit)) [
-          true ↦ λ e' h. cc
-        | false ↦ λ e' h. (ltb-false a.limit (a.need + a.held) e, ltb-false b.limit (b.need + b.held) e')
-        ] refl
+      | true ↦ λ e h. cc
+      | false ↦ λ e.
+          elim (is_lacking b) as (λ t. is_lacking b ≡ t → cond t (Some b) None ≡ None → (a.need + a.held ≤ a.limit) × (b.need + b.held ≤ b.limit)) [
+            | true ↦ λ e' h. cc
+            | false ↦ λ e' h. (ltb-false a.limit (a.need + a.held) e, ltb-false b.limit (b.need + b.held) e')
+          ] refl
     ] refl
 
 -- ---- the enqueue step
@@ -138,8 +138,7 @@ module _ (held : IndexedSpace) (lasting : HasNoExpirations held.queues) (call : 
       × (space_of (purged_of purge held) ≡ (enqueue_step (space_of held) call clock next).space)
   enqueue_refused next answer purge nothing refused =
       let s = purged clock (space_of held) in
-      let step : enqueue_step (space_of held) call clock next ≡ record { space = s; answer = answer } = ap (λ (r : Option CallAnswer). unless_refused r s (enqueued s call next)) refused in
-      (
+      let step : enqueue_step (space_of held) call clock next ≡ record { space = s; answer = answer } = ap (λ (r : Option CallAnswer). unless_refused r s (enqueued s call next)) refused in (
         refused,
         sym (ap (λ (o : CallOutcome). o.answer) step),
         ap (λ (p : List MsgId). space_of (purged_of p held)) nothing ∙ sym (ap (λ (o : CallOutcome). o.space) step ∙ purged_same clock held lasting),
@@ -169,19 +168,18 @@ module _ (held : IndexedSpace) (lasting : HasNoExpirations held.queues) (call : 
         let s = purged clock S in
         let none : enqueue_refusal S call clock ≡ None = refused_room None room in
         let step : enqueue_step S call clock next ≡ enqueued S call next =
-            ap (λ (r : Option CallAnswer). unless_refused r s (enqueued s call next)) none ∙ ap (λ (x : Space). enqueued x call next) (purged_same clock held lasting) in
+        ap (λ (r : Option CallAnswer). unless_refused r s (enqueued s call next)) none ∙ ap (λ (x : Space). enqueued x call next) (purged_same clock held lasting) in
         let named : queue_named call.queue S.queues ≡ Some q.queue = find-map the_queue (is_named call.queue) held.queues ∙ ap (option_map the_queue) found in
         let after : with_message S call next (queue_named call.queue S.queues) ≡ record S { queues = with_item_in call.queue (new_item S q.queue call next) S.queues } =
-            ap (with_message S call next) named in
+        ap (with_message S call next) named in
         let inserted : map the_queue (item_inserted e.queue (item_of e) held.queues) ≡ with_item_in call.queue (new_item S q.queue call next) S.queues =
-            (λ i. map the_queue (item_inserted (is_index i) (is_item i) held.queues))
-            ∙ change_named call.queue (with_item (new_item S q.queue call next)) q held.queues distinct found in
+        (λ i. map the_queue (item_inserted (is_index i) (is_item i) held.queues))
+        ∙ change_named call.queue (with_item (new_item S q.queue call next)) q held.queues distinct found in
         let queue_there : list_any (has_index e.queue) held.queues ≡ true = ap (λ (n : ℕ). list_any (has_index n) held.queues) is_index ∙ found_any call.queue q held.queues found in
         let bounds = no_lack (record { resource = _; need = 1; held = messages_held S; limit = held.limits.messages }) (record { resource = _; need = pages_at (quality call.qos q.queue.qos) (length call.body); held = pages_held S; limit = held.limits.pages }) room in
         let P : List MsgId → List SpaceMove → Type 0 = λ (purge : List MsgId) (moves : List SpaceMove). CanMoveBy moves (purged_of purge held) in
         let can : P [] (Insert e ∷ []) = ((plain, queue_there, omega (arith, bounds.0), omega (arith, bounds.1, is_pages)), tt) in
-        let enough : IsEnough 1 (Insert e ∷ []) = (omega arith, tt) in
-        (
+        let enough : IsEnough 1 (Insert e ∷ []) = (omega arith, tt) in (
           record {
             answer = is_answer ∙ ap (λ (o : CallOutcome). Some o.answer) (sym step);
             space =
@@ -200,9 +198,9 @@ without_seen : (id : MsgId) (qs : List IndexedQueue) → map the_queue (item_rem
 without_seen id [] = refl
 without_seen id (q ∷ qs) =
     elim (holds_id id q.queue) as (λ b. map the_queue (cond b (on_queue (without_item id) q ∷ qs) (q ∷ item_removed id qs))
-        ≡ cond b (without_item id q.queue ∷ map the_queue qs) (q.queue ∷ without id (map the_queue qs))) [
-      true ↦ refl
-    | false ↦ ap (λ (l : List Queue). q.queue ∷ l) (without_seen id qs)
+    ≡ cond b (without_item id q.queue ∷ map the_queue qs) (q.queue ∷ without id (map the_queue qs))) [
+      | true ↦ refl
+      | false ↦ ap (λ (l : List Queue). q.queue ∷ l) (without_seen id qs)
     ]
 
 found_same : (call : DequeueCall) (clock : ℕ) (o : Option IndexedQueue) → found_in call clock (option_map the_queue o) ≡ answer_in call clock o
@@ -220,17 +218,17 @@ module _ (held : IndexedSpace) (lasting : HasNoExpirations held.queues) (call : 
   pub dequeue_is : dequeue_step (space_of held) call clock ≡ record { space = taken_from (space_of held) call r; answer = dequeue_answer call (option_map the_queue o) r }
   dequeue_is =
       (λ i.
-        let s = purged_same clock held lasting i in
-        let queue = queue_named call.queue s.queues in
-        record { space = taken_from s call (found_in call clock queue); answer = dequeue_answer call queue (found_in call clock queue) })
+      let s = purged_same clock held lasting i in
+      let queue = queue_named call.queue s.queues in
+      record { space = taken_from s call (found_in call clock queue); answer = dequeue_answer call queue (found_in call clock queue) })
       ∙ λ i. record { space = taken_from (space_of held) call (in_queue i); answer = dequeue_answer call (named i) (in_queue i) }
 
   pub dequeue_refusal_is : dequeue_refusal (space_of held) call clock ≡ refusal_at (option_map the_queue o) r
   dequeue_refusal_is =
       (λ i.
-        let s = purged_same clock held lasting i in
-        let queue = queue_named call.queue s.queues in
-        refusal_at queue (found_in call clock queue))
+      let s = purged_same clock held lasting i in
+      let queue = queue_named call.queue s.queues in
+      refusal_at queue (found_in call clock queue))
       ∙ λ i. refusal_at (named i) (in_queue i)
 
 pub dequeue_refused : (held : IndexedSpace) (call : DequeueCall) (clock : ℕ) (answer : CallAnswer) (purge : List MsgId) → purge ≡ []
@@ -238,10 +236,10 @@ pub dequeue_refused : (held : IndexedSpace) (call : DequeueCall) (clock : ℕ) (
     → (dequeue_refusal (space_of held) call clock ≡ Some answer) × (answer ≡ (dequeue_step (space_of held) call clock).answer)
     × (space_of (purged_of purge held) ≡ (dequeue_step (space_of held) call clock).space)
 dequeue_refused held call clock answer purge nothing refused step = (
-    refused,
-    sym (ap (λ (o : CallOutcome). o.answer) step),
-    ap (λ (p : List MsgId). space_of (purged_of p held)) nothing ∙ sym (ap (λ (o : CallOutcome). o.space) step),
-  )
+  refused,
+  sym (ap (λ (o : CallOutcome). o.answer) step),
+  ap (λ (p : List MsgId). space_of (purged_of p held)) nothing ∙ sym (ap (λ (o : CallOutcome). o.space) step),
+)
 
 pub dequeue_planned : (held : IndexedSpace) (call : DequeueCall) (clock : ℕ) (item : Item) (plan : Plan)
     → dequeue_refusal (space_of held) call clock ≡ None
@@ -252,15 +250,14 @@ dequeue_planned held call clock item plan none step no_purge is_moves is_answer 
     let S = space_of held in
     let moves_at = λ (b : Bool). option_to_list (if b then None else Some (Remove item.letter.id)) in
     let after : space_of (moved_by (moves_at call.peek) held) ≡ taken_from S call (Some item) =
-        elim call.peek as (λ b. space_of (moved_by (moves_at b) held) ≡ (if b then S else space_without item.letter.id S)) [
-          true ↦ refl
-        | false ↦ λ i. record S { queues = without_seen item.letter.id held.queues i }
-        ] in
+    elim call.peek as (λ b. space_of (moved_by (moves_at b) held) ≡ (if b then S else space_without item.letter.id S)) [
+      | true ↦ refl
+      | false ↦ λ i. record S { queues = without_seen item.letter.id held.queues i }
+    ] in
     let can : CanMoveBy (moves_at call.peek) held =
-        elim call.peek as (λ b. CanMoveBy (moves_at b) held) [ true ↦ tt | false ↦ (tt, tt) ] in
+    elim call.peek as (λ b. CanMoveBy (moves_at b) held) [ true ↦ tt | false ↦ (tt, tt) ] in
     let enough : IsEnough (length (moves_at call.peek)) (moves_at call.peek) =
-        elim call.peek as (λ b. IsEnough (length (moves_at b)) (moves_at b)) [ true ↦ tt | false ↦ tt ] in
-    (
+    elim call.peek as (λ b. IsEnough (length (moves_at b)) (moves_at b)) [ true ↦ tt | false ↦ tt ] in (
       record {
         answer = is_answer ∙ ap (λ (o : CallOutcome). Some o.answer) (sym step);
         space = (λ i. space_of (moved_by (is_moves i) (purged_of (no_purge i) held))) ∙ after ∙ ap (λ (o : CallOutcome). o.space) (sym step);

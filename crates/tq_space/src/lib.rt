@@ -8,3 +8,6 @@ mod space;
 
 pub use plans::{Moves, Plan, Purge, Refusal};
 pub use space::Space;
+
+#[cfg(test)]
+mod tests;

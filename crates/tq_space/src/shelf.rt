@@ -90,21 +90,25 @@ fn place_indexed(queues: &[HeldQueue], index: u16) -> Option<usize>
 fn place_of_id(keys: &[usize], entries: &Slab<Entry>, id: &MsgId) -> Option<usize>
     ensures { result ≡ position (λ k. slot_test (has_id id.now) (slot_at entries.now.slots k)) keys.now }
 {
-    keys.iter().position(|key| slot_has_id(entries.get(*key), id))
+    keys.iter()
+        .position(|key| slot_has_id(entries.get(*key), id))
 }
 
 /// The first place of a queue that has an entry of that identifier.
 fn place_holding(queues: &[HeldQueue], entries: &Slab<Entry>, id: &MsgId) -> Option<usize>
     ensures { result ≡ position (λ q. is_some (position (λ k. slot_test (has_id id.now) (slot_at entries.now.slots k)) q.keys.items)) queues.now }
 {
-    queues.iter().position(|q| place_of_id(&q.keys, entries, id).is_some())
+    queues
+        .iter()
+        .position(|q| place_of_id(&q.keys, entries, id).is_some())
 }
 
 /// The first place of a key before whose entry the label stands.
 fn place_after(keys: &[usize], entries: &Slab<Entry>, order: &Order, label: &Label) -> Option<usize>
     ensures { result ≡ position (λ k. slot_test (label_before order.now label.now) (slot_at entries.now.slots k)) keys.now }
 {
-    keys.iter().position(|key| slot_is_after(entries.get(*key), order, label))
+    keys.iter()
+        .position(|key| slot_is_after(entries.get(*key), order, label))
 }
 
 /// The same, or the end.
@@ -170,7 +174,11 @@ fn reserve_keys(queues: &mut [HeldQueue], more: usize) -> Result<(), AllocError>
 }
 
 /// Makes room for so many more entries and queues.
-fn reserve_all(queues: &mut Vec<HeldQueue>, entries: &mut Slab<Entry>, more: usize) -> Result<(), AllocError>
+fn reserve_all(
+    queues: &mut Vec<HeldQueue>,
+    entries: &mut Slab<Entry>,
+    more: usize,
+) -> Result<(), AllocError>
     ensures slots { entries.new.slots ≡ entries.old.slots }
     ensures capacity { entries.old.capacity ≤ entries.new.capacity }
     ensures grown { AreGrown queues.old.items queues.new.items }
@@ -246,10 +254,16 @@ fn past(clock: u64, at: Option<u64>) -> bool
 }
 
 /// The first place of a key whose entry answers a dequeue.
-fn place_answering(keys: &[usize], entries: &Slab<Entry>, call: &DequeueCall, clock: u64) -> Option<usize>
+fn place_answering(
+    keys: &[usize],
+    entries: &Slab<Entry>,
+    call: &DequeueCall,
+    clock: u64,
+) -> Option<usize>
     ensures { result ≡ position (λ k. slot_test (can_answer call.now clock) (slot_at entries.now.slots k)) keys.now }
 {
-    keys.iter().position(|key| slot_answers(entries.get(*key), call, clock))
+    keys.iter()
+        .position(|key| slot_answers(entries.get(*key), call, clock))
 }
 
 /// What is read of a queue that is named.
@@ -370,6 +384,21 @@ impl Shelf {
         let queue = &self.queues[at];
         let Some(place) = place_answering(&queue.keys, &self.entries, call, clock) else {
             return None;
+        };
+        let key = queue.keys[place];
+        self.entries.get(key)
+    }
+
+    /// The entry of that identifier.
+    pub(crate) fn with_id(&self, id: &MsgId) -> Option<&Entry>
+        ensures entry { option_map item_of (option_copied result) ≡ item_with_id id.now self.now.queues }
+    {
+        let Some(at) = place_holding(&self.queues, &self.entries, id) else {
+            return None;
+        };
+        let queue = &self.queues[at];
+        let Some(place) = place_of_id(&queue.keys, &self.entries, id) else {
+            unreachable!()
         };
         let key = queue.keys[place];
         self.entries.get(key)

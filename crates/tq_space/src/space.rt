@@ -1,11 +1,11 @@
 ghost use Rattle.std.specs.Prelude.{◌≡◌, ℕ, true, false, ◌+◌, ◌-◌, ◌*◌, option_copied, option_to_list, if◌then◌else◌, ◌≤◌, [], ◌∷◌, length, IfOk, OnOk, OnErr, MatchOption, Some, None, option_map};
-ghost use Rattle.tq_model.specs.Space.{new_space, overhead_pages, divided_up};
-ghost use Rattle.tq_model.specs.Moves.{item_of, space_of, purged_of, moved, moved_by, has_index};
+ghost use Rattle.tq_model.specs.Space.{new_space, overhead_pages, divided_up, body_length};
+ghost use Rattle.tq_model.specs.Moves.{item_of, space_of, purged_of, moved, moved_by, has_index, item_with_id};
 ghost use Rattle.std.specs.List.{find, list_any};
 ghost use Rattle.tq_space.specs.Reads.{indexed_named};
 ghost use Rattle.tq_model.specs.Room.{pages_for, pages_at, message_rooms, first_lacking};
 ghost use Rattle.tq_model.specs.EnqueueStep.{quality, next_id, enqueue_step, enqueue_refusal};
-ghost use Rattle.tq_model.specs.DequeueStep.{dequeue_step, dequeue_refusal, delivered};
+ghost use Rattle.tq_model.specs.DequeueStep.{dequeue_step, dequeue_refusal, delivered, content_bytes};
 ghost use Rattle.tq_space.specs.Plain.{IsPlainEnqueue, IsPlainDequeue, IsPlainEntry, IsEnough, CanMoveBy, CanMove, need_of, ready_after};
 ghost use Rattle.tq_space.specs.Applied.{plan_applied};
 ghost use Rattle.tq_space.specs.Planned.{MeetsStep, IsRefused};
@@ -15,8 +15,13 @@ use crate::plans::{Moves, Plan, Purge, Refusal};
 use crate::shelf::Shelf;
 use std::alloc::{AllocError, Global};
 use std::marker::Model;
-use tq_model::{CallAnswer, Delivery, DequeueAsk, DequeueCall, EnqueueAsk, QueueDef, Shape, SpaceMove};
-use tq_types::{Arrival, AskedQos, Entry, Label, Lack, Mark, Message, MsgId, Name, Path, Qos, Resource, Root};
+use tq_model::{
+    CallAnswer, Delivery, DequeueAsk, DequeueCall, EnqueueAsk, QueueDef, Shape, SpaceMove,
+};
+use tq_types::{
+    Arrival, AskedQos, Body, Entry, Label, Lack, Mark, Message, MsgId, Name, Path, Qos, Resource,
+    Root,
+};
 
 /// The limits of a space's creation; the pages are those for messages.
 #[derive(Clone, Copy, Debug)]
@@ -57,7 +62,10 @@ impl Model for Space {
 fn overhead_for(queues: u16, messages: u16, transactions: u16) -> u64
     ensures { result ≡ 1 + 2 * (divided_up (64 + 512 * queues + 64 * messages + 160 * transactions) 1024 + (16 + divided_up (72 * messages) 1024)) }
 {
-    let slots = 64 + 512 * u64::from(queues) + 64 * u64::from(messages) + 160 * u64::from(transactions);
+    let slots = 64
+        + 512 * u64::from(queues)
+        + 64 * u64::from(messages)
+        + 160 * u64::from(transactions);
     let log = 72 * u64::from(messages);
     1 + 2 * ((slots + 1023) / 1024 + (16 + (log + 1023) / 1024))
 }
@@ -101,7 +109,13 @@ fn chosen(asked: AskedQos, default: Qos) -> Qos
 }
 
 /// The first of messages and pages that is lacking.
-fn first_lack(messages: u64, message_limit: u64, pages: u64, page_limit: u64, need: u64) -> Option<Lack>
+fn first_lack(
+    messages: u64,
+    message_limit: u64,
+    pages: u64,
+    page_limit: u64,
+    need: u64,
+) -> Option<Lack>
     requires messages_fit { messages ≤ message_limit }
     requires pages_fit { pages ≤ page_limit }
     requires limits_fit { message_limit + page_limit + need ≤ 1000000000000 }
@@ -186,14 +200,22 @@ fn plan_of(alloc: Global, item: Option<SpaceMove>, answer: CallAnswer) -> Result
 fn removal(peek: bool, id: MsgId) -> Option<SpaceMove>
     ensures { result ≡ (if peek then None else Some (SpaceMove.Remove id)) }
 {
-    if peek { None } else { Some(SpaceMove::Remove(id)) }
+    if peek {
+        None
+    } else {
+        Some(SpaceMove::Remove(id))
+    }
 }
 
 /// An entry as it is handed out.
 fn delivery_of(entry: &Entry, call: &DequeueCall) -> Result<Delivery, AllocError>
     ensures { IfOk result (λ d. CallAnswer.Dequeued d ≡ delivered call.now (item_of entry.now)) }
 {
-    let id = if call.asked.wants_id() { Some(entry.message.id) } else { None };
+    let id = if call.asked.wants_id() {
+        Some(entry.message.id)
+    } else {
+        None
+    };
     Ok(Delivery {
         body: entry.message.body.copy()?,
         urcode: entry.message.urcode,
@@ -405,6 +427,26 @@ impl Space {
         ensures ready { self.new.ready ≡ 0 }
     {
         self.shelf.add_queue(index, def);
+    }
+
+    /// A copy of the body of the entry with that identifier; none where there is no such entry.
+    pub fn body(&self, id: &MsgId) -> Result<Option<Body>, AllocError>
+        ensures { IfOk result (λ o. o ≡ option_map (λ item. content_bytes item.letter.body) (item_with_id id.now self.now.held.queues)) }
+    {
+        match self.shelf.with_id(id) {
+            Some(entry) => Ok(Some(entry.message.body.copy()?)),
+            None => Ok(None),
+        }
+    }
+
+    /// The length of the body of the entry with that identifier, if there is one.
+    pub fn body_length(&self, id: &MsgId) -> Option<usize>
+        ensures { result ≡ option_map (λ item. body_length item.letter.body) (item_with_id id.now self.now.held.queues) }
+    {
+        match self.shelf.with_id(id) {
+            Some(entry) => Some(entry.message.body.len()),
+            None => None,
+        }
     }
 
     /// The index of the queue of that name, if there is one.

@@ -37,8 +37,10 @@ returns-in_default-place_answering c =
     let at_d = named_at slots queues c.args.call.now.queue c.in-Some.at d c.index-queue.ensures found in
     let keyed = λ (k : ℕ). slot_test (can_answer c.args.call.now c.args.clock) (slot_at slots k) in
     let none : position keyed d.keys.items ≡ None = ap (position keyed) (sym c.deref-2.ensures.value) ∙ sym c.place_answering.ensures ∙ c.in_default-place_answering.is in
-    record { entry = sym (ap (answer_in c.args.call.now c.args.clock) (subst (λ (l : List IndexedQueue). find (indexed_named c.args.call.now.queue) l ≡ Some (indexed_at slots d)) view at_d)
-      ∙ answer_none slots queues c.self.invariant.listed (can_answer c.args.call.now c.args.clock) c.in-Some.at d c.index-queue.ensures (position-found test queues c.in-Some.at found).1 none) }
+    record {
+      entry = sym (ap (answer_in c.args.call.now c.args.clock) (subst (λ (l : List IndexedQueue). find (indexed_named c.args.call.now.queue) l ≡ Some (indexed_at slots d)) view at_d)
+          ∙ answer_none slots queues c.self.invariant.listed (can_answer c.args.call.now c.args.clock) c.in-Some.at d c.index-queue.ensures (position-found test queues c.in-Some.at found).1 none);
+    }
 
 pub returns : goal.returns
 returns c =
@@ -53,6 +55,8 @@ returns c =
     let place = c.in-Some-place_answering.place in
     let key = c.index-key.result.now in
     let spot : position keyed d.keys.items ≡ Some place = sym (c.in-Some-place_answering.ensures ∙ ap (position keyed) c.deref-2.ensures.value) in
-    record { entry = ap (option_map item_of) c.get.ensures
-    ∙ answer_at slots queues c.self.invariant.listed (can_answer c.args.call.now c.args.clock) c.in-Some.at d c.index-queue.ensures (position-found test queues c.in-Some.at found).1 place key spot c.index-key.ensures
-    ∙ sym (ap (answer_in c.args.call.now c.args.clock) (subst (λ (l : List IndexedQueue). find (indexed_named c.args.call.now.queue) l ≡ Some (indexed_at slots d)) view at_d)) }
+    record {
+      entry = ap (option_map item_of) c.get.ensures
+          ∙ answer_at slots queues c.self.invariant.listed (can_answer c.args.call.now c.args.clock) c.in-Some.at d c.index-queue.ensures (position-found test queues c.in-Some.at found).1 place key spot c.index-key.ensures
+          ∙ sym (ap (answer_in c.args.call.now c.args.clock) (subst (λ (l : List IndexedQueue). find (indexed_named c.args.call.now.queue) l ≡ Some (indexed_at slots d)) view at_d));
+    }

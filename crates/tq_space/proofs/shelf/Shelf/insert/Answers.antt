@@ -31,7 +31,7 @@ invariant_of-self c =
     let q' : HeldQueue = record { index = d.index; def = d.def; keys = c.put_key.new.keys } in
     let test = λ (k : ℕ). slot_test (label_before d.def.order entry.label) (slot_at slots k) in
     let found : position (λ (q : HeldQueue). q.index == entry.queue) queues ≡ Some at =
-        sym (c.in-Some.ensures ∙ ap (position (λ (q : HeldQueue). q.index == entry.queue)) c.deref.ensures.value) in
+    sym (c.in-Some.ensures ∙ ap (position (λ (q : HeldQueue). q.index == entry.queue)) c.deref.ensures.value) in
     let is_place : place ≡ position_or_len test d.keys.items = c.place_for-place.ensures ∙ ap (position_or_len test) c.deref-in-Some.ensures.value in
     let keyed : IsRekeyed d q' (insert d.keys.items place key) = record { index = refl; def = refl; keys_are = c.put_key.ensures.items } in
     let ready = ap (λ (v : ShelfValue). v.ready) c.self.view_is in
@@ -47,7 +47,7 @@ pub unreachable-requires : goal.unreachable-requires
 unreachable-requires c =
     let queues = c.self.inside.queues.items in
     let none : position (λ (q : HeldQueue). q.index == c.args.entry.queue) queues ≡ None =
-        ap (position (λ (q : HeldQueue). q.index == c.args.entry.queue)) (sym c.deref.ensures.value) ∙ sym c.place_indexed.ensures ∙ c.in_default.is in
+    ap (position (λ (q : HeldQueue). q.index == c.args.entry.queue)) (sym c.deref.ensures.value) ∙ sym c.place_indexed.ensures ∙ c.in_default.is in
     index_there c.self.inside.entries.slots queues c.args.entry.queue (ap (λ (v : ShelfValue). list_any (has_index c.args.entry.queue) v.queues) c.self.view_is ∙ c.requires.there) none
 
 pub returns-clause-queues : goal.returns-clause-queues
@@ -63,7 +63,7 @@ returns-clause-queues c =
     let q' : HeldQueue = record { index = d.index; def = d.def; keys = c.put_key.new.keys } in
     let test = λ (k : ℕ). slot_test (label_before d.def.order entry.label) (slot_at slots k) in
     let found : position (λ (q : HeldQueue). q.index == entry.queue) queues ≡ Some at =
-        sym (c.in-Some.ensures ∙ ap (position (λ (q : HeldQueue). q.index == entry.queue)) c.deref.ensures.value) in
+    sym (c.in-Some.ensures ∙ ap (position (λ (q : HeldQueue). q.index == entry.queue)) c.deref.ensures.value) in
     let is_place : place ≡ position_or_len test d.keys.items = c.place_for-place.ensures ∙ ap (position_or_len test) c.deref-in-Some.ensures.value in
     let keyed : IsRekeyed d q' (insert d.keys.items place key) = record { index = refl; def = refl; keys_are = c.put_key.ensures.items } in
     inserted_seen slots slots' queues c.self.invariant.listed at d c.index_mut-queue.ensures.value q' key place entry c.insert_reserved-key.ensures.updates.others c.insert_reserved-key.ensures.was_vacant c.insert_reserved-key.ensures.updates.changed keyed c.requires.plain found is_place

@@ -35,8 +35,7 @@ loop-id-preserved c =
     let ids = c.as_slice-id-items.result.now in
     let at = c.loop-id.id-index in
     let old = c.loop-id.self.held in
-    let step = ap (λ (s : IndexedSpace). purged_of (drop (at + 1) ids) s) c.remove.ensures.held in
-    (
+    let step = ap (λ (s : IndexedSpace). purged_of (drop (at + 1) ids) s) c.remove.ensures.held in (
       step ∙ sym (at_drop_more (λ (l : List MsgId). purged_of l old) ids at _ c.loop-id-test.true) ∙ c.loop-id.invariant.0,
       c.remove.ensures.ready ∙ c.loop-id.invariant.1,
     )

@@ -39,7 +39,7 @@ invariant_of-self c =
     let can : CanMove (Insert entry) (held_of c.self.inside) = subst (λ (s : SpaceState). CanMove (Insert entry) s.held) (sym c.self.view_is) c.requires.can in
     let more : total length_of (item_inserted entry.queue (item_of entry) qs) ≡ total length_of qs + 1 = total_inserted length_of 1 (item_of entry) (length_more (item_of entry)) entry.queue qs can.1 in
     let wide : total queue_pages (item_inserted entry.queue (item_of entry) qs) ≡ total queue_pages qs + pages_at entry.message.qos (length entry.message.body) =
-        total_inserted queue_pages (item_pages (item_of entry)) (item_of entry) (pages_more (item_of entry)) entry.queue qs can.1 in
+    total_inserted queue_pages (item_pages (item_of entry)) (item_of entry) (pages_more (item_of entry)) entry.queue qs can.1 in
     let now_more : total length_of c.insert.new.self.queues ≡ total length_of (item_inserted entry.queue (item_of entry) qs) = ap (λ (l : List IndexedQueue). total length_of l) c.insert.ensures.queues in
     let now_wide : total queue_pages c.insert.new.self.queues ≡ total queue_pages (item_inserted entry.queue (item_of entry) qs) = ap (λ (l : List IndexedQueue). total queue_pages l) c.insert.ensures.queues in
     let new_messages : c.self.inside.messages + 1 ≡ total length_of c.insert.new.self.queues = omega (arith, messages, more, now_more) in

@@ -38,8 +38,8 @@ returns-in_default-clause-step c =
     let view = ap (λ (s : SpaceState). s.held.queues) c.self.view_is in
     let lasting = subst HasNoExpirations view c.named.ensures.lasting in
     let none : find (indexed_named call.queue) held.queues ≡ None =
-        subst (λ (l : List IndexedQueue). find (indexed_named call.queue) l ≡ None) view
-        (none_of named_of (find (indexed_named call.queue) c.self.inside.shelf.queues) (sym c.named.ensures.named ∙ c.in_default.is)) in
+    subst (λ (l : List IndexedQueue). find (indexed_named call.queue) l ≡ None) view
+    (none_of named_of (find (indexed_named call.queue) c.self.inside.shelf.queues) (sym c.named.ensures.named ∙ c.in_default.is)) in
     dequeue_refused held call clock BadQueue c.new.result c.new.ensures
     (dequeue_refusal_is held lasting call clock None none None refl) (dequeue_is held lasting call clock None none None refl)
 
@@ -51,8 +51,8 @@ returns-in_default-clause-granted c =
     let view = ap (λ (s : SpaceState). s.held.queues) c.self.view_is in
     let lasting = subst HasNoExpirations view c.named.ensures.lasting in
     let none : find (indexed_named call.queue) held.queues ≡ None =
-        subst (λ (l : List IndexedQueue). find (indexed_named call.queue) l ≡ None) view
-        (none_of named_of (find (indexed_named call.queue) c.self.inside.shelf.queues) (sym c.named.ensures.named ∙ c.in_default.is)) in
+    subst (λ (l : List IndexedQueue). find (indexed_named call.queue) l ≡ None) view
+    (none_of named_of (find (indexed_named call.queue) c.self.inside.shelf.queues) (sym c.named.ensures.named ∙ c.in_default.is)) in
     let some = (dequeue_refused held call clock BadQueue c.new.result c.new.ensures
     (dequeue_refusal_is held lasting call clock None none None refl) (dequeue_is held lasting call clock None none None refl)).0 in
     λ granted refused. let clash = sym some ∙ granted in cc
@@ -68,7 +68,7 @@ returns-in_default-answering-clause-step c =
     let q = named.0 in
     let found : find (indexed_named call.queue) held.queues ≡ Some q = subst (λ (l : List IndexedQueue). find (indexed_named call.queue) l ≡ Some q) view named.1 in
     let nothing : answer_in call clock (Some q) ≡ None =
-        ap (answer_in call clock) (sym named.1) ∙ sym c.answering.ensures.entry ∙ ap (λ o. option_map item_of (option_copied o)) c.in_default-answering.is in
+    ap (answer_in call clock) (sym named.1) ∙ sym c.answering.ensures.entry ∙ ap (λ o. option_map item_of (option_copied o)) c.in_default-answering.is in
     dequeue_refused held call clock NoMessage c.new-in_default-answering.result c.new-in_default-answering.ensures
     (dequeue_refusal_is held lasting call clock (Some q) found None nothing) (dequeue_is held lasting call clock (Some q) found None nothing)
 
@@ -83,7 +83,7 @@ returns-in_default-answering-clause-granted c =
     let q = named.0 in
     let found : find (indexed_named call.queue) held.queues ≡ Some q = subst (λ (l : List IndexedQueue). find (indexed_named call.queue) l ≡ Some q) view named.1 in
     let nothing : answer_in call clock (Some q) ≡ None =
-        ap (answer_in call clock) (sym named.1) ∙ sym c.answering.ensures.entry ∙ ap (λ o. option_map item_of (option_copied o)) c.in_default-answering.is in
+    ap (answer_in call clock) (sym named.1) ∙ sym c.answering.ensures.entry ∙ ap (λ o. option_map item_of (option_copied o)) c.in_default-answering.is in
     let some = (dequeue_refused held call clock NoMessage c.new-in_default-answering.result c.new-in_default-answering.ensures
     (dequeue_refusal_is held lasting call clock (Some q) found None nothing) (dequeue_is held lasting call clock (Some q) found None nothing)).0 in
     λ granted refused. let clash = sym some ∙ granted in cc

@@ -39,8 +39,8 @@ returns-in_default-clause-step c =
     let view = ap (λ (s : SpaceState). s.held.queues) c.self.view_is in
     let lasting = subst HasNoExpirations view c.named.ensures.lasting in
     let none : find (indexed_named call.queue) held.queues ≡ None =
-        subst (λ (l : List IndexedQueue). find (indexed_named call.queue) l ≡ None) view
-        (none_of named_of (find (indexed_named call.queue) c.self.inside.shelf.queues) (sym c.named.ensures.named ∙ c.in_default.is)) in
+    subst (λ (l : List IndexedQueue). find (indexed_named call.queue) l ≡ None) view
+    (none_of named_of (find (indexed_named call.queue) c.self.inside.shelf.queues) (sym c.named.ensures.named ∙ c.in_default.is)) in
     enqueue_refused held lasting call clock next BadQueue c.new.result c.new.ensures (refused_badly held lasting call clock none)
 
 pub returns-in_default-clause-granted : goal.returns-in_default-clause-granted
@@ -52,8 +52,8 @@ returns-in_default-clause-granted c =
     let view = ap (λ (s : SpaceState). s.held.queues) c.self.view_is in
     let lasting = subst HasNoExpirations view c.named.ensures.lasting in
     let none : find (indexed_named call.queue) held.queues ≡ None =
-        subst (λ (l : List IndexedQueue). find (indexed_named call.queue) l ≡ None) view
-        (none_of named_of (find (indexed_named call.queue) c.self.inside.shelf.queues) (sym c.named.ensures.named ∙ c.in_default.is)) in
+    subst (λ (l : List IndexedQueue). find (indexed_named call.queue) l ≡ None) view
+    (none_of named_of (find (indexed_named call.queue) c.self.inside.shelf.queues) (sym c.named.ensures.named ∙ c.in_default.is)) in
     let some = (enqueue_refused held lasting call clock next BadQueue c.new.result c.new.ensures (refused_badly held lasting call clock none)).0 in
     λ granted refused. let clash = sym some ∙ granted in cc
 
@@ -72,7 +72,7 @@ returns-in-Some-lack-clause-step c =
     let need_is : pages_at (quality call.qos q.queue.qos) (length call.body) ≡ c.message_pages.result = sym (c.message_pages.ensures.pages ∙ λ i. pages_at (qos_is i) (c.len.ensures i)) in
     enqueue_refused held lasting call clock next (NoSpace c.in-Some-lack.lack) c.new-in-Some-lack.result c.new-in-Some-lack.ensures
     (refused_room held lasting call clock q found (Some c.in-Some-lack.lack)
-      (ap (λ (n : ℕ). first_lacking (message_rooms (space_of held) (space_of held) n)) need_is ∙ sym c.in-Some-lack.ensures))
+    (ap (λ (n : ℕ). first_lacking (message_rooms (space_of held) (space_of held) n)) need_is ∙ sym c.in-Some-lack.ensures))
 
 pub returns-in-Some-lack-clause-granted : goal.returns-in-Some-lack-clause-granted
 returns-in-Some-lack-clause-granted c =
@@ -89,7 +89,7 @@ returns-in-Some-lack-clause-granted c =
     let need_is : pages_at (quality call.qos q.queue.qos) (length call.body) ≡ c.message_pages.result = sym (c.message_pages.ensures.pages ∙ λ i. pages_at (qos_is i) (c.len.ensures i)) in
     let some = (enqueue_refused held lasting call clock next (NoSpace c.in-Some-lack.lack) c.new-in-Some-lack.result c.new-in-Some-lack.ensures
     (refused_room held lasting call clock q found (Some c.in-Some-lack.lack)
-      (ap (λ (n : ℕ). first_lacking (message_rooms (space_of held) (space_of held) n)) need_is ∙ sym c.in-Some-lack.ensures))).0 in
+    (ap (λ (n : ℕ). first_lacking (message_rooms (space_of held) (space_of held) n)) need_is ∙ sym c.in-Some-lack.ensures))).0 in
     λ granted refused. let clash = sym some ∙ granted in cc
 
 pub returns-clause-step : goal.returns-clause-step
