@@ -1,0 +1,99 @@
+-- What the moves change in sums over all entries.
+use Rattle.std.proofs.Common.{◌≡◌, ℕ, ◌+◌, ◌<◌, ◌≤◌, ◌||◌, Bool, true, false, cond, not, List, [], ◌∷◌, map, length, get_or, suc, refl, sym, ap, ◌∙◌, subst, arith, Option, Some, None, ltb, ltb-true}
+use Rattle.std.specs.Prelude.{is_some}
+use Rattle.std.specs.List.{list_any, find, position_or_len, insert, remove, sum_by}
+use Rattle.std.proofs.lemmas.List.Edits.{length-insert, length-remove}
+use Rattle.std.proofs.lemmas.List.Sums.{sum_by-cons, sum_by-insert, sum_by-remove}
+use Rattle.tq_types.specs.declared.identifiers.MsgId.{MsgId}
+use Rattle.tq_model.specs.declared.space.QueueDef.{QueueDef}
+use Rattle.tq_model.specs.Space.{Item, Queue, has_id, holds_id, with_item, without_item, stands_before}
+use Rattle.tq_model.specs.Moves.{IndexedQueue, the_queue, has_index, item_inserted, item_removed, item_with_id, queue_added, queue_of, comes_before}
+use Rattle.tq_model.specs.Room.{item_pages, queue_pages}
+use Rattle.tq_space.proofs.Places.{list_any-place, find-at, position_or_len-within, map-insert}
+
+-- the sum of what each queue counts
+abbrev pub total : (Queue → ℕ) → List IndexedQueue → ℕ
+total g qs = sum_by g (map the_queue qs)
+
+total-cons : (g : Queue → ℕ) (q : IndexedQueue) (qs : List IndexedQueue) → total g (q ∷ qs) ≡ g q.queue + total g qs
+total-cons g q qs = sum_by-cons g q.queue (map the_queue qs)
+
+-- an insert into a queue that is there
+pub total_inserted : (g : Queue → ℕ) (n : ℕ) (item : Item) → ((q : Queue) → g (with_item item q) ≡ g q + n) → (index : ℕ) (qs : List IndexedQueue)
+    → list_any (has_index index) qs ≡ true → total g (item_inserted index item qs) ≡ total g qs + n
+total_inserted g n item more index [] = λ h. cc
+total_inserted g n item more index (q ∷ qs) =
+    let before = total-cons g q qs in
+    elim (has_index index q) as (λ b. b || list_any (has_index index) qs ≡ true
+    → total g (cond b (record q { queue = with_item item q.queue } ∷ qs) (q ∷ item_inserted index item qs)) ≡ total g (q ∷ qs) + n) [
+      | true ↦ λ h. let after = total-cons g (record q { queue = with_item item q.queue }) qs in let one = more q.queue in omega arith
+      | false ↦ λ h. let after = total-cons g q (item_inserted index item qs) in let rest = total_inserted g n item more index qs h in omega arith
+    ]
+
+any-find : {X : Type 0} (p : X → Bool) (xs : List X) → list_any p xs ≡ is_some (find p xs)
+any-find p [] = refl
+any-find p (x ∷ xs) = elim (p x) as (λ b. b || list_any p xs ≡ is_some (cond b (Some x) (find p xs))) [ true ↦ refl | false ↦ any-find p xs ]
+
+no-some : {X : Type 0} (o : Option X) → true ≡ is_some o → o ≡ None → ⊥
+no-some None h e = cc
+no-some (Some x) h e = cc
+
+-- nothing has the identifier: nothing goes
+pub removed_nothing : (id : MsgId) (qs : List IndexedQueue) → item_with_id id qs ≡ None → item_removed id qs ≡ qs
+removed_nothing id [] = λ h. refl
+removed_nothing id (q ∷ qs) =
+    elim (holds_id id q.queue) as (λ b. b ≡ is_some (find (has_id id) q.queue.items) → cond b (find (has_id id) q.queue.items) (item_with_id id qs) ≡ None
+    → cond b (record q { queue = without_item id q.queue } ∷ qs) (q ∷ item_removed id qs) ≡ q ∷ qs) [
+      | true ↦ λ some h. absurd (no-some (find (has_id id) q.queue.items) some h)
+      | false ↦ λ some h. ap (λ (l : List IndexedQueue). q ∷ l) (removed_nothing id qs h)
+    ] (any-find (has_id id) q.queue.items)
+
+found-place : (p : Item → Bool) (xs : List Item) (item : Item) → find p xs ≡ Some item → (position_or_len p xs < length xs) × (get_or xs (position_or_len p xs) item ≡ item)
+found-place p xs item found =
+    let any : list_any p xs ≡ true = any-find p xs ∙ ap is_some found in
+    let below : position_or_len p xs < length xs = ltb-true (position_or_len p xs) (length xs) (sym (list_any-place p xs) ∙ any) in
+    let same : Some (get_or xs (position_or_len p xs) item) ≡ Some item = sym (find-at p item xs below) ∙ found in
+    (below, cc)
+
+-- the entry of the identifier goes
+pub total_removed : (g : Queue → ℕ) (w : Item → ℕ) → ((q : Queue) (at : ℕ) (d : Item) → at < length q.items → g (record q { items = remove q.items at }) + w (get_or q.items at d) ≡ g q)
+    → (id : MsgId) (item : Item) (qs : List IndexedQueue) → item_with_id id qs ≡ Some item → total g (item_removed id qs) + w item ≡ total g qs
+total_removed g w less id item [] = λ h. cc
+total_removed g w less id item (q ∷ qs) =
+    let before = total-cons g q qs in
+    elim (holds_id id q.queue) as (λ b. cond b (find (has_id id) q.queue.items) (item_with_id id qs) ≡ Some item
+    → total g (cond b (record q { queue = without_item id q.queue } ∷ qs) (q ∷ item_removed id qs)) + w item ≡ total g (q ∷ qs)) [
+      | true ↦ λ h.
+          let place = found-place (has_id id) q.queue.items item h in
+          let after = total-cons g (record q { queue = without_item id q.queue }) qs in
+          let one = less q.queue (position_or_len (has_id id) q.queue.items) item place.0 in
+          let this : w (get_or q.queue.items (position_or_len (has_id id) q.queue.items) item) ≡ w item = ap w place.1 in
+          omega arith
+      | false ↦ λ h. let after = total-cons g q (item_removed id qs) in let rest = total_removed g w less id item qs h in omega arith
+    ]
+
+-- a queue without entries is added
+pub total_added : (g : Queue → ℕ) (index : ℕ) (d : QueueDef) → g (queue_of d []) ≡ 0 → (qs : List IndexedQueue) → total g (queue_added index d qs) ≡ total g qs
+total_added g index d none qs =
+    let place = position_or_len (comes_before d.name) qs in
+    let new : IndexedQueue = record { index = index; queue = queue_of d [] } in
+    let all : total g (queue_added index d qs) ≡ sum_by g (insert (map the_queue qs) place (queue_of d [])) = ap (λ (l : List Queue). sum_by g l) (map-insert the_queue qs place new) in
+    let sum = sum_by-insert g (map the_queue qs) place (queue_of d []) in
+    omega arith
+
+-- the two sums
+
+abbrev pub length_of : Queue → ℕ
+length_of q = length q.items
+
+pub length_more : (item : Item) (q : Queue) → length_of (with_item item q) ≡ length_of q + 1
+length_more item q = length-insert q.items (position_or_len (stands_before q.order item) q.items) item (position_or_len-within (stands_before q.order item) q.items)
+
+pub length_less : (q : Queue) (at : ℕ) (d : Item) → at < length q.items → length_of (record q { items = remove q.items at }) + 1 ≡ length_of q
+length_less q at d within = length-remove q.items at within
+
+pub pages_more : (item : Item) (q : Queue) → queue_pages (with_item item q) ≡ queue_pages q + item_pages item
+pages_more item q = sum_by-insert item_pages q.items (position_or_len (stands_before q.order item) q.items) item
+
+pub pages_less : (q : Queue) (at : ℕ) (d : Item) → at < length q.items → queue_pages (record q { items = remove q.items at }) + item_pages (get_or q.items at d) ≡ queue_pages q
+pages_less q at d within = sum_by-remove item_pages q.items at d within

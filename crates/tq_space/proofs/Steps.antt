@@ -1,0 +1,269 @@
+-- What plans and refusals have to do with the machine's steps.
+use Rattle.std.proofs.Common.{◌≡◌, ℕ, ◌+◌, ◌<◌, ◌≤◌, ◌==◌, ◌||◌, ◌&&◌, Bool, true, false, cond, not, List, [], ◌∷◌, map, filter, length, get_or, refl, sym, ap, ◌∙◌, subst, arith, Option, Some, None, option_map, eq-eqb, ltb, ltb-false, leb}
+use Rattle.std.specs.Prelude.{is_some, if◌then◌else◌, option_to_list}
+use Rattle.std.specs.List.{All, list_any, find, sum_by, count_by}
+use Rattle.std.proofs.lemmas.List.Elements.{All-head, All-tail}
+use Rattle.std.proofs.lemmas.List.Sums.{sum_by-cons}
+use Rattle.tq_types.specs.declared.identifiers.Arrival.{Arrival}
+use Rattle.tq_types.specs.declared.identifiers.MsgId.{MsgId}
+use Rattle.tq_types.specs.declared.rooms.Lack.{Lack}
+use Rattle.tq_types.specs.declared.messages.Entry.{Entry}
+use Rattle.tq_model.specs.declared.calls.EnqueueCall.{EnqueueCall}
+use Rattle.tq_model.specs.declared.calls.DequeueCall.{DequeueCall}
+use Rattle.tq_model.specs.declared.calls.CallAnswer.{CallAnswer}
+use Rattle.tq_model.specs.declared.calls.CallAnswer.TheVariants.{Enqueued, BadQueue, NoMessage, NoSpace}
+use Rattle.tq_model.specs.declared.space.SpaceMove.{SpaceMove}
+use Rattle.tq_model.specs.declared.space.SpaceMove.TheVariants.{Insert, Remove}
+use Rattle.tq_model.specs.Space.{Space, Queue, Item, change_first, is_named, queue_named, is_free, is_past, is_expired, purged, purged_queue, with_item, with_item_in, without, without_item, holds_id, space_without}
+use Rattle.tq_model.specs.Moves.{IndexedQueue, IndexedSpace, the_queue, space_of, has_index, on_queue, item_of, item_inserted, item_removed, moved, moved_by, purged_of}
+use Rattle.tq_model.specs.Room.{is_lacking, first_lacking, message_rooms, messages_held, pages_held, pages_at}
+use Rattle.tq_model.specs.EnqueueStep.{CallOutcome, quality, next_id, new_item, enqueue_refusal, enqueue_refusal_at, enqueue_step, enqueued, with_message, unless_refused}
+use Rattle.tq_model.specs.DequeueStep.{can_answer, found_in, delivered, dequeue_answer, taken_from, dequeue_step, dequeue_refusal, refusal_at}
+use Rattle.tq_space.specs.declared.plans.Plan.{Plan}
+use Rattle.tq_space.specs.Plain.{HasNoExpirations, IsPlainEntry, CanMoveBy, IsEnough}
+use Rattle.tq_space.specs.Applied.{plan_applied}
+use Rattle.tq_space.specs.Planned.{IsPlanOf}
+use Rattle.tq_space.specs.NewEntry.{plain_item}
+use Rattle.tq_space.specs.Reads.{indexed_named, HasDistinctIndices}
+use Rattle.tq_space.specs.Reading.{answer_in}
+use Rattle.tq_space.proofs.Keys.{hit}
+
+-- ---- nothing expires
+
+filter_kept : {X : Type 0} (p : X → Bool) (xs : List X) → All (λ x. p x ≡ true) xs → filter p xs ≡ xs
+filter_kept p [] h = refl
+filter_kept p (x ∷ xs) h =
+    let first : p x ≡ true = All-head (λ y. p y ≡ true) x xs h in
+    let rest = filter_kept p xs (All-tail (λ y. p y ≡ true) x xs h) in
+    λ i. cond (first i) (x ∷ rest i) (rest i)
+
+stays : (t : ℕ) (item : Item) → item.letter.expiration ≡ None → not (is_expired t item) ≡ true
+stays t item h =
+    let none : is_past t item.letter.expiration ≡ false = ap (is_past t) h in
+    elim (is_free item.holding) as (λ b. not (b && is_past t item.letter.expiration) ≡ true) [ true ↦ ap not none | false ↦ refl ]
+
+purged_queues : (t : ℕ) (qs : List IndexedQueue) → HasNoExpirations qs → map (purged_queue t) (map the_queue qs) ≡ map the_queue qs
+purged_queues t [] h = refl
+purged_queues t (q ∷ qs) h =
+    let P : IndexedQueue → Type 0 = λ (x : IndexedQueue). All (λ (item : Item). item.letter.expiration ≡ None) x.queue.items in
+    let first = All-head P q qs h in
+    let rest = purged_queues t qs (All-tail P q qs h) in
+    let items : filter (λ (item : Item). not (is_expired t item)) q.queue.items ≡ q.queue.items =
+    filter_kept (λ (item : Item). not (is_expired t item)) q.queue.items (λ k d lt. stays t (get_or q.queue.items k d) (first k d lt)) in
+    λ i. record q.queue { items = items i } ∷ rest i
+
+pub purged_same : (t : ℕ) (s : IndexedSpace) → HasNoExpirations s.queues → purged t (space_of s) ≡ space_of s
+purged_same t s h = let same = purged_queues t s.queues h in λ i. record (space_of s) { queues = same i }
+
+-- ---- names and indices
+
+find-map : {X Y : Type 0} (f : X → Y) (p : Y → Bool) (xs : List X) → find p (map f xs) ≡ option_map f (find (λ x. p (f x)) xs)
+find-map f p [] = refl
+find-map f p (x ∷ xs) =
+    elim (p (f x)) as (λ b. cond b (Some (f x)) (find p (map f xs)) ≡ option_map f (cond b (Some x) (find (λ y. p (f y)) xs))) [
+      | true ↦ refl
+      | false ↦ find-map f p xs
+    ]
+
+or_true : (b : Bool) → b || true ≡ true
+or_true true = refl
+or_true false = refl
+
+hit_zero : (b : Bool) → hit b ≤ 0 → b ≡ false
+hit_zero true h = absurd (omega arith)
+hit_zero false h = refl
+
+found_any : (name : List ℕ) (q : IndexedQueue) (qs : List IndexedQueue) → find (indexed_named name) qs ≡ Some q → list_any (has_index q.index) qs ≡ true
+found_any name q [] = λ h. cc
+found_any name q (x ∷ xs) =
+    elim (indexed_named name x) as (λ b. cond b (Some x) (find (indexed_named name) xs) ≡ Some q → has_index q.index x || list_any (has_index q.index) xs ≡ true) [
+      | true ↦ λ h.
+          let same : x ≡ q = cc in
+          ap (λ (b : Bool). b || list_any (has_index q.index) xs) (eq-eqb x.index q.index (ap (λ (y : IndexedQueue). y.index) same))
+      | false ↦ λ h. ap (λ (b : Bool). has_index q.index x || b) (found_any name q xs h) ∙ or_true (has_index q.index x)
+    ]
+
+any_count : (p : IndexedQueue → Bool) (xs : List IndexedQueue) → list_any p xs ≡ true → 1 ≤ count_by p xs
+any_count p [] = λ h. cc
+any_count p (x ∷ xs) =
+    let sum : count_by p (x ∷ xs) ≡ hit (p x) + count_by p xs = sum_by-cons (λ y. hit (p y)) x xs in
+    elim (p x) as (λ b. count_by p (x ∷ xs) ≡ hit b + count_by p xs → b || list_any p xs ≡ true → 1 ≤ count_by p (x ∷ xs)) [
+      | true ↦ λ s h. omega arith
+      | false ↦ λ s h. let rest = any_count p xs h in omega arith
+    ] sum
+
+change_named : (name : List ℕ) (f : Queue → Queue) (q : IndexedQueue) (qs : List IndexedQueue) → HasDistinctIndices qs → find (indexed_named name) qs ≡ Some q
+    → map the_queue (change_first (has_index q.index) (on_queue f) qs) ≡ change_first (is_named name) f (map the_queue qs)
+change_named name f q [] distinct = λ h. cc
+change_named name f q (x ∷ xs) distinct =
+    let sum : (i : ℕ) → count_by (has_index i) (x ∷ xs) ≡ hit (has_index i x) + count_by (has_index i) xs = λ i. sum_by-cons (λ (y : IndexedQueue). hit (has_index i y)) x xs in
+    let rest : HasDistinctIndices xs = λ i. let s = sum i in let most = distinct i in omega arith in
+    let choice = λ (b : Bool). map the_queue (cond b (on_queue f x ∷ xs) (x ∷ change_first (has_index q.index) (on_queue f) xs)) in
+    elim (indexed_named name x) as (λ b. cond b (Some x) (find (indexed_named name) xs) ≡ Some q
+    → choice (has_index q.index x) ≡ cond b (f x.queue ∷ map the_queue xs) (x.queue ∷ change_first (is_named name) f (map the_queue xs))) [
+      | true ↦ λ h.
+          let same : x ≡ q = cc in
+          ap choice (eq-eqb x.index q.index (ap (λ (y : IndexedQueue). y.index) same))
+      | false ↦ λ h.
+          let once = any_count (has_index q.index) xs (found_any name q xs h) in
+          let most = distinct q.index in
+          let s = sum q.index in
+          ap choice (hit_zero (has_index q.index x) (omega arith)) ∙ ap (λ (l : List Queue). x.queue ∷ l) (change_named name f q xs rest h)
+    ]
+
+-- ---- room
+
+no_lack : (a b : Lack) → first_lacking (a ∷ b ∷ []) ≡ None → (a.need + a.held ≤ a.limit) × (b.need + b.held ≤ b.limit)
+no_lack a b =
+    elim (is_lacking a) as (λ t. is_lacking a ≡ t → cond t (Some a) (cond (is_lacking b) (Some b) None) ≡ None → (a.need + a.held ≤ a.limit) × (b.need + b.held ≤ b.limit)) [
+      | true ↦ λ e h. cc
+      | false ↦ λ e.
+          elim (is_lacking b) as (λ t. is_lacking b ≡ t → cond t (Some b) None ≡ None → (a.need + a.held ≤ a.limit) × (b.need + b.held ≤ b.limit)) [
+            | true ↦ λ e' h. cc
+            | false ↦ λ e' h. (ltb-false a.limit (a.need + a.held) e, ltb-false b.limit (b.need + b.held) e')
+          ] refl
+    ] refl
+
+-- ---- the enqueue step
+
+module _ (held : IndexedSpace) (lasting : HasNoExpirations held.queues) (call : EnqueueCall) (clock : ℕ) where
+  refusal_found : (o : Option IndexedQueue) → find (indexed_named call.queue) held.queues ≡ o
+      → enqueue_refusal (space_of held) call clock ≡ enqueue_refusal_at (space_of held) (space_of held) call (option_map the_queue o)
+  refusal_found o found =
+      ap (λ (s : Space). enqueue_refusal_at (space_of held) s call (queue_named call.queue s.queues)) (purged_same clock held lasting)
+      ∙ ap (enqueue_refusal_at (space_of held) (space_of held) call) (find-map the_queue (is_named call.queue) held.queues ∙ ap (option_map the_queue) found)
+
+  pub enqueue_refused : (next : Arrival) (answer : CallAnswer) (purge : List MsgId) → purge ≡ [] → enqueue_refusal (space_of held) call clock ≡ Some answer
+      → (enqueue_refusal (space_of held) call clock ≡ Some answer) × (answer ≡ (enqueue_step (space_of held) call clock next).answer)
+      × (space_of (purged_of purge held) ≡ (enqueue_step (space_of held) call clock next).space)
+  enqueue_refused next answer purge nothing refused =
+      let s = purged clock (space_of held) in
+      let step : enqueue_step (space_of held) call clock next ≡ record { space = s; answer = answer } = ap (λ (r : Option CallAnswer). unless_refused r s (enqueued s call next)) refused in (
+        refused,
+        sym (ap (λ (o : CallOutcome). o.answer) step),
+        ap (λ (p : List MsgId). space_of (purged_of p held)) nothing ∙ sym (ap (λ (o : CallOutcome). o.space) step ∙ purged_same clock held lasting),
+      )
+
+  pub refused_badly : find (indexed_named call.queue) held.queues ≡ None → enqueue_refusal (space_of held) call clock ≡ Some BadQueue
+  refused_badly found = refusal_found None found
+
+  module _ (q : IndexedQueue) (found : find (indexed_named call.queue) held.queues ≡ Some q) where
+    need : ℕ
+    need = pages_at (quality call.qos q.queue.qos) (length call.body)
+
+    pub refused_room : (lack : Option Lack)
+        → first_lacking (message_rooms (space_of held) (space_of held) (pages_at (quality call.qos q.queue.qos) (length call.body))) ≡ lack
+        → enqueue_refusal (space_of held) call clock ≡ option_map NoSpace lack
+    refused_room lack is_lack = refusal_found (Some q) found ∙ ap (option_map NoSpace) is_lack
+
+    pub enqueue_planned : (next : Arrival) (distinct : HasDistinctIndices held.queues)
+        → first_lacking (message_rooms (space_of held) (space_of held) (pages_at (quality call.qos q.queue.qos) (length call.body))) ≡ None
+        → (e : Entry) → item_of e ≡ plain_item call (quality call.qos q.queue.qos) (next_id (space_of held) next) next → e.queue ≡ q.index → IsPlainEntry e
+        → pages_at e.message.qos (length e.message.body) ≡ pages_at (quality call.qos q.queue.qos) (length call.body)
+        → (plan : Plan) → plan.purge ≡ [] → plan.moves ≡ Insert e ∷ []
+        → plan.answer ≡ Some (Enqueued (if call.want_id then Some (next_id (space_of held) next) else None))
+        → IsPlanOf (enqueue_step (space_of held) call clock next) held plan × (enqueue_refusal (space_of held) call clock ≡ None)
+    enqueue_planned next distinct room e is_item is_index plain is_pages plan no_purge is_moves is_answer =
+        let S = space_of held in
+        let s = purged clock S in
+        let none : enqueue_refusal S call clock ≡ None = refused_room None room in
+        let step : enqueue_step S call clock next ≡ enqueued S call next =
+        ap (λ (r : Option CallAnswer). unless_refused r s (enqueued s call next)) none ∙ ap (λ (x : Space). enqueued x call next) (purged_same clock held lasting) in
+        let named : queue_named call.queue S.queues ≡ Some q.queue = find-map the_queue (is_named call.queue) held.queues ∙ ap (option_map the_queue) found in
+        let after : with_message S call next (queue_named call.queue S.queues) ≡ record S { queues = with_item_in call.queue (new_item S q.queue call next) S.queues } =
+        ap (with_message S call next) named in
+        let inserted : map the_queue (item_inserted e.queue (item_of e) held.queues) ≡ with_item_in call.queue (new_item S q.queue call next) S.queues =
+        (λ i. map the_queue (item_inserted (is_index i) (is_item i) held.queues))
+        ∙ change_named call.queue (with_item (new_item S q.queue call next)) q held.queues distinct found in
+        let queue_there : list_any (has_index e.queue) held.queues ≡ true = ap (λ (n : ℕ). list_any (has_index n) held.queues) is_index ∙ found_any call.queue q held.queues found in
+        let bounds = no_lack (record { resource = _; need = 1; held = messages_held S; limit = held.limits.messages }) (record { resource = _; need = pages_at (quality call.qos q.queue.qos) (length call.body); held = pages_held S; limit = held.limits.pages }) room in
+        let P : List MsgId → List SpaceMove → Type 0 = λ (purge : List MsgId) (moves : List SpaceMove). CanMoveBy moves (purged_of purge held) in
+        let can : P [] (Insert e ∷ []) = ((plain, queue_there, omega (arith, bounds.0), omega (arith, bounds.1, is_pages)), tt) in
+        let enough : IsEnough 1 (Insert e ∷ []) = (omega arith, tt) in (
+          record {
+            answer = is_answer ∙ ap (λ (o : CallOutcome). Some o.answer) (sym step);
+            space =
+                (λ i. space_of (moved_by (is_moves i) (purged_of (no_purge i) held)))
+                ∙ (λ i. record S { queues = inserted i })
+                ∙ sym after ∙ ap (λ (o : CallOutcome). o.space) (sym step);
+            can = subst (λ (moves : List SpaceMove). P plan.purge moves) (sym is_moves) (subst (λ (purge : List MsgId). P purge (Insert e ∷ [])) (sym no_purge) can);
+            enough = subst (λ (moves : List SpaceMove). IsEnough (length moves) moves) (sym is_moves) enough;
+          },
+          none,
+        )
+
+-- ---- the dequeue step
+
+without_seen : (id : MsgId) (qs : List IndexedQueue) → map the_queue (item_removed id qs) ≡ without id (map the_queue qs)
+without_seen id [] = refl
+without_seen id (q ∷ qs) =
+    elim (holds_id id q.queue) as (λ b. map the_queue (cond b (on_queue (without_item id) q ∷ qs) (q ∷ item_removed id qs))
+    ≡ cond b (without_item id q.queue ∷ map the_queue qs) (q.queue ∷ without id (map the_queue qs))) [
+      | true ↦ refl
+      | false ↦ ap (λ (l : List Queue). q.queue ∷ l) (without_seen id qs)
+    ]
+
+found_same : (call : DequeueCall) (clock : ℕ) (o : Option IndexedQueue) → found_in call clock (option_map the_queue o) ≡ answer_in call clock o
+found_same call clock None = refl
+found_same call clock (Some q) = refl
+
+module _ (held : IndexedSpace) (lasting : HasNoExpirations held.queues) (call : DequeueCall) (clock : ℕ) (o : Option IndexedQueue)
+    (found : find (indexed_named call.queue) held.queues ≡ o) (r : Option Item) (answering : answer_in call clock o ≡ r) where
+  named : queue_named call.queue (space_of held).queues ≡ option_map the_queue o
+  named = find-map the_queue (is_named call.queue) held.queues ∙ ap (option_map the_queue) found
+
+  in_queue : found_in call clock (queue_named call.queue (space_of held).queues) ≡ r
+  in_queue = ap (found_in call clock) named ∙ found_same call clock o ∙ answering
+
+  pub dequeue_is : dequeue_step (space_of held) call clock ≡ record { space = taken_from (space_of held) call r; answer = dequeue_answer call (option_map the_queue o) r }
+  dequeue_is =
+      (λ i.
+      let s = purged_same clock held lasting i in
+      let queue = queue_named call.queue s.queues in
+      record { space = taken_from s call (found_in call clock queue); answer = dequeue_answer call queue (found_in call clock queue) })
+      ∙ λ i. record { space = taken_from (space_of held) call (in_queue i); answer = dequeue_answer call (named i) (in_queue i) }
+
+  pub dequeue_refusal_is : dequeue_refusal (space_of held) call clock ≡ refusal_at (option_map the_queue o) r
+  dequeue_refusal_is =
+      (λ i.
+      let s = purged_same clock held lasting i in
+      let queue = queue_named call.queue s.queues in
+      refusal_at queue (found_in call clock queue))
+      ∙ λ i. refusal_at (named i) (in_queue i)
+
+pub dequeue_refused : (held : IndexedSpace) (call : DequeueCall) (clock : ℕ) (answer : CallAnswer) (purge : List MsgId) → purge ≡ []
+    → dequeue_refusal (space_of held) call clock ≡ Some answer → dequeue_step (space_of held) call clock ≡ record { space = space_of held; answer = answer }
+    → (dequeue_refusal (space_of held) call clock ≡ Some answer) × (answer ≡ (dequeue_step (space_of held) call clock).answer)
+    × (space_of (purged_of purge held) ≡ (dequeue_step (space_of held) call clock).space)
+dequeue_refused held call clock answer purge nothing refused step = (
+  refused,
+  sym (ap (λ (o : CallOutcome). o.answer) step),
+  ap (λ (p : List MsgId). space_of (purged_of p held)) nothing ∙ sym (ap (λ (o : CallOutcome). o.space) step),
+)
+
+pub dequeue_planned : (held : IndexedSpace) (call : DequeueCall) (clock : ℕ) (item : Item) (plan : Plan)
+    → dequeue_refusal (space_of held) call clock ≡ None
+    → dequeue_step (space_of held) call clock ≡ record { space = taken_from (space_of held) call (Some item); answer = delivered call item }
+    → plan.purge ≡ [] → plan.moves ≡ option_to_list (if call.peek then None else Some (Remove item.letter.id)) → plan.answer ≡ Some (delivered call item)
+    → IsPlanOf (dequeue_step (space_of held) call clock) held plan × (dequeue_refusal (space_of held) call clock ≡ None)
+dequeue_planned held call clock item plan none step no_purge is_moves is_answer =
+    let S = space_of held in
+    let moves_at = λ (b : Bool). option_to_list (if b then None else Some (Remove item.letter.id)) in
+    let after : space_of (moved_by (moves_at call.peek) held) ≡ taken_from S call (Some item) =
+    elim call.peek as (λ b. space_of (moved_by (moves_at b) held) ≡ (if b then S else space_without item.letter.id S)) [
+      | true ↦ refl
+      | false ↦ λ i. record S { queues = without_seen item.letter.id held.queues i }
+    ] in
+    let can : CanMoveBy (moves_at call.peek) held =
+    elim call.peek as (λ b. CanMoveBy (moves_at b) held) [ true ↦ tt | false ↦ (tt, tt) ] in
+    let enough : IsEnough (length (moves_at call.peek)) (moves_at call.peek) =
+    elim call.peek as (λ b. IsEnough (length (moves_at b)) (moves_at b)) [ true ↦ tt | false ↦ tt ] in (
+      record {
+        answer = is_answer ∙ ap (λ (o : CallOutcome). Some o.answer) (sym step);
+        space = (λ i. space_of (moved_by (is_moves i) (purged_of (no_purge i) held))) ∙ after ∙ ap (λ (o : CallOutcome). o.space) (sym step);
+        can = subst (λ (moves : List SpaceMove). CanMoveBy moves (purged_of plan.purge held)) (sym is_moves)
+            (subst (λ (purge : List MsgId). CanMoveBy (moves_at call.peek) (purged_of purge held)) (sym no_purge) can);
+        enough = subst (λ (moves : List SpaceMove). IsEnough (length moves) moves) (sym is_moves) enough;
+      },
+      none,
+    )

@@ -1,0 +1,52 @@
+use Rattle.std.proofs.Common.{◌≡◌, ◌≢◌, ℕ, ◌+◌, ◌-◌, ◌<◌, ◌≤◌, ◌==◌, Bool, true, List, [], ◌∷◌, map, length, get_or, set, refl, sym, ap, ◌∙◌, subst, arith, Option, Some, None, option_map, vec_len, vec_capacity}
+use Rattle.std.specs.Prelude.{is_some}
+use Rattle.std.specs.List.{position, position_or_len, list_any, insert, remove}
+use Rattle.tq_model.specs.Space.{has_id, name_before}
+use Rattle.tq_model.specs.Moves.{item_of, item_inserted, item_removed, item_with_id, IndexedQueue, queue_added, has_index}
+use Rattle.tq_types.specs.declared.messages.Entry.{Entry}
+use Rattle.tq_space.specs.declared.shelf.HeldQueue.{HeldQueue}
+use Rattle.tq_space.specs.State.{ShelfValue}
+use Rattle.tq_space.specs.Slots.{slot_at, slot_test, label_before}
+use Rattle.tq_space.specs.Shelf.{indexed_at}
+use Rattle.tq_space.proofs.Places.{position_or_len-within, position-none, position-found}
+use Rattle.tq_space.proofs.Keys.{IsRekeyed, index_there, nothing_held, no_item_held}
+use Rattle.tq_space.proofs.Shelves.{inserted_listed, inserted_seen, removed_listed, removed_seen, removed_item, room_less, room_set, room_at, position-passes, slab_less, grown_same, grown_set, seen_grown, listed_grown, room_grown, added_listed, added_seen, room_added}
+use Rattle.std.proofs.Common.{false}
+use Rattle.tq_space.specs.Shelf.{IsListed}
+use Rattle.tq_space.specs.Grown.{HasRoomIn}
+use Rattle.tq_space.proofs.shelf.Shelf.add_queue.Goals as goal
+
+pub put_queue-requires-clause-within : goal.put_queue-requires-clause-within
+put_queue-requires-clause-within c =
+    omega (arith, c.place_by_name-place.ensures, position_or_len-within (λ (q : HeldQueue). name_before c.args.def.now.name q.def.name) c.deref.result.now, c.deref.ensures.len)
+
+pub invariant_of-self : goal.invariant_of-self
+invariant_of-self c =
+    let queues = c.self.inside.queues.items in
+    let slots = c.self.inside.entries.slots in
+    let index = c.args.index in
+    let d = c.args.def.now in
+    let place = c.place_by_name-place.result in
+    let q : HeldQueue = record { index = index; def = d; keys = c.new-keys.result } in
+    let new : list_any (has_index index) (map (indexed_at slots) queues) ≡ false = ap (λ (v : ShelfValue). list_any (has_index index) v.queues) c.self.view_is ∙ c.requires.new in
+    let short : vec_len c.new-keys.result ≤ vec_capacity c.new-keys.result = omega (arith, c.new-keys.ensures.len) in
+    record {
+      listed = subst (IsListed slots) (sym c.put_queue.ensures.items) (added_listed slots queues c.self.invariant.listed index d q place refl refl c.new-keys.ensures.items new);
+      entry_room = omega (arith, c.self.invariant.entry_room);
+      key_room = subst (HasRoomIn 0) (sym c.put_queue.ensures.items) (room_added queues place c.self.inside.ready q c.self.invariant.key_room short);
+      queue_room = omega (arith, c.put_queue.ensures.len, c.put_queue.ensures.capacity, c.self.invariant.queue_room, c.requires.room, ap (λ (v : ShelfValue). v.ready) c.self.view_is);
+    }
+
+pub returns-clause-queues : goal.returns-clause-queues
+returns-clause-queues c =
+    let queues = c.self.inside.queues.items in
+    let slots = c.self.inside.entries.slots in
+    let index = c.args.index in
+    let d = c.args.def.now in
+    let place = c.place_by_name-place.result in
+    let q : HeldQueue = record { index = index; def = d; keys = c.new-keys.result } in
+    let new : list_any (has_index index) (map (indexed_at slots) queues) ≡ false = ap (λ (v : ShelfValue). list_any (has_index index) v.queues) c.self.view_is ∙ c.requires.new in
+    ap (λ (l : List HeldQueue). map (indexed_at slots) l) c.put_queue.ensures.items
+    ∙ added_seen slots queues c.self.invariant.listed index d q place refl refl c.new-keys.ensures.items new
+    (c.place_by_name-place.ensures ∙ ap (position_or_len (λ (x : HeldQueue). name_before d.name x.def.name)) c.deref.ensures.value)
+    ∙ ap (λ (v : ShelfValue). queue_added index d v.queues) c.self.view_is

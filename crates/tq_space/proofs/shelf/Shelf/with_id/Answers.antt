@@ -1,0 +1,56 @@
+use Rattle.std.proofs.Common.{◌≡◌, ◌≢◌, ℕ, ◌+◌, ◌-◌, ◌<◌, ◌≤◌, ◌==◌, Bool, true, false, List, [], ◌∷◌, map, length, get_or, set, refl, sym, ap, ◌∙◌, subst, arith, Option, Some, None, option_map, vec_len, vec_capacity}
+use Rattle.std.specs.Prelude.{is_some}
+use Rattle.std.specs.List.{position, position_or_len, list_any, insert, remove}
+use Rattle.tq_model.specs.Space.{has_id, name_before}
+use Rattle.tq_model.specs.Moves.{item_of, item_inserted, item_removed, item_with_id, IndexedQueue, queue_added, has_index}
+use Rattle.tq_types.specs.declared.messages.Entry.{Entry}
+use Rattle.tq_space.specs.declared.shelf.HeldQueue.{HeldQueue}
+use Rattle.tq_space.specs.State.{ShelfValue}
+use Rattle.tq_space.specs.Slots.{slot_at, slot_test, label_before}
+use Rattle.tq_space.specs.Shelf.{indexed_at}
+use Rattle.tq_space.proofs.Places.{position_or_len-within, position-none, position-found}
+use Rattle.tq_space.proofs.Keys.{IsRekeyed, index_there, nothing_held, no_item_held}
+use Rattle.tq_space.proofs.Shelves.{inserted_listed, inserted_seen, removed_listed, removed_seen, removed_item, room_less, room_set, room_at, position-passes, slab_less, grown_same, grown_set, seen_grown, listed_grown, room_grown, added_listed, added_seen, room_added}
+use Rattle.tq_space.proofs.Found.{item_at_id}
+use Rattle.tq_space.proofs.shelf.Shelf.with_id.Goals as goal
+
+pub returns-in_default : goal.returns-in_default
+returns-in_default c =
+    let queues = c.self.inside.queues.items in
+    let slots = c.self.inside.entries.slots in
+    let id = c.args.id.now in
+    let holding = λ (q : HeldQueue). is_some (position (λ k. slot_test (has_id id) (slot_at slots k)) q.keys.items) in
+    let none : position holding queues ≡ None = ap (position holding) (sym c.deref.ensures.value) ∙ sym c.place_holding.ensures ∙ c.in_default.is in
+    let view = ap (λ (v : ShelfValue). v.queues) c.self.view_is in
+    record { entry = sym (subst (λ (l : List IndexedQueue). item_with_id id l ≡ None) view (no_item_held slots queues c.self.invariant.listed id none)) }
+
+pub unreachable-requires : goal.unreachable-requires
+unreachable-requires c =
+    let queues = c.self.inside.queues.items in
+    let slots = c.self.inside.entries.slots in
+    let id = c.args.id.now in
+    let d = c.index-queue.result.now in
+    let test = λ (k : ℕ). slot_test (has_id id) (slot_at slots k) in
+    let holding = λ (q : HeldQueue). is_some (position (λ k. slot_test (has_id id) (slot_at slots k)) q.keys.items) in
+    let holds : position holding queues ≡ Some c.in-Some.at = sym (c.in-Some.ensures ∙ ap (position holding) c.deref.ensures.value) in
+    let passes : holding d ≡ true = subst (λ (q : HeldQueue). holding q ≡ true) (sym c.index-queue.ensures) (position-passes holding queues c.in-Some.at d holds) in
+    let none : position test d.keys.items ≡ None = ap (position test) (sym c.deref-2.ensures.value) ∙ sym c.place_of_id.ensures ∙ c.in_default-place_of_id.is in
+    let no : is_some (position test d.keys.items) ≡ false = ap is_some none in
+    cc
+
+pub returns : goal.returns
+returns c =
+    let queues = c.self.inside.queues.items in
+    let slots = c.self.inside.entries.slots in
+    let id = c.args.id.now in
+    let d = c.index-queue.result.now in
+    let test = λ (k : ℕ). slot_test (has_id id) (slot_at slots k) in
+    let holding = λ (q : HeldQueue). is_some (position (λ k. slot_test (has_id id) (slot_at slots k)) q.keys.items) in
+    let holds : position holding queues ≡ Some c.in-Some.at = sym (c.in-Some.ensures ∙ ap (position holding) c.deref.ensures.value) in
+    let found : position test d.keys.items ≡ Some c.in-Some-place_of_id.place = sym (c.in-Some-place_of_id.ensures ∙ ap (position test) c.deref-2.ensures.value) in
+    record {
+      entry =
+          ap (option_map item_of) c.get.ensures
+          ∙ item_at_id slots queues c.self.invariant.listed id c.in-Some.at d c.index-queue.ensures holds c.in-Some-place_of_id.place c.index-key.result.now found c.index-key.ensures
+          ∙ ap (λ (v : ShelfValue). item_with_id id v.queues) c.self.view_is;
+    }

@@ -1,0 +1,91 @@
+use Rattle.std.proofs.Common.{◌≡◌, ℕ, ◌+◌, ◌-◌, ◌<◌, ◌≤◌, Bool, true, false, List, [], ◌∷◌, ◌++◌, map, length, get_or, drop, reverse, refl, sym, ap, ◌∙◌, subst, arith, Option, Some, None, Ok, Err, option_map}
+use Rattle.std.specs.Prelude.{is_some, option_copied, option_to_list, if◌then◌else◌}
+use Rattle.std.specs.List.{find, list_any, sum_by}
+use Rattle.std.proofs.lemmas.Result.{on_ok_weaker}
+use Rattle.std.proofs.lemmas.List.{reverse-reverse, at_drop_more, at_drop_all, drop_all}
+use Rattle.tq_types.specs.declared.identifiers.MsgId.{MsgId}
+use Rattle.tq_types.specs.declared.messages.Entry.{Entry}
+use Rattle.tq_types.specs.declared.rooms.Lack.{Lack}
+use Rattle.tq_types.specs.declared.messages.Qos.{Qos}
+use Rattle.tq_model.specs.declared.calls.CallAnswer.{CallAnswer}
+use Rattle.tq_model.specs.declared.calls.CallAnswer.TheVariants.{Enqueued, BadQueue, NoMessage, NoSpace, Dequeued}
+use Rattle.tq_model.specs.declared.space.SpaceMove.{SpaceMove}
+use Rattle.tq_model.specs.declared.space.SpaceMove.TheVariants.{Insert, Remove, PutQueue}
+use Rattle.tq_model.specs.Space.{Item}
+use Rattle.tq_model.specs.Moves.{IndexedQueue, IndexedSpace, the_queue, space_of, item_of, item_inserted, item_removed, item_with_id, queue_added, has_index, moved, moved_by, purged_of}
+use Rattle.tq_model.specs.Room.{item_pages, queue_pages, pages_at, message_rooms, first_lacking}
+use Rattle.tq_model.specs.EnqueueStep.{quality, next_id, enqueue_step, enqueue_refusal}
+use Rattle.tq_model.specs.DequeueStep.{delivered, dequeue_step, dequeue_refusal}
+use Rattle.tq_space.specs.declared.shelf.Named.{Named}
+use Rattle.tq_space.specs.declared.plans.Refusal.TheVariants.{Refused}
+use Rattle.tq_space.specs.State.{ShelfValue, SpaceState}
+use Rattle.tq_space.specs.Kept.{held_of}
+use Rattle.tq_space.specs.Plain.{HasNoExpirations, CanMove, CanMoveBy, IsEnough, ready_after}
+use Rattle.tq_space.specs.Planned.{MeetsStep, IsPlanOf}
+use Rattle.tq_space.specs.NewEntry.{plain_item}
+use Rattle.tq_space.specs.Reads.{indexed_named, HasDistinctIndices}
+use Rattle.tq_space.specs.Reading.{named_of, answer_in}
+use Rattle.tq_space.proofs.Counts.{total, total_inserted, total_removed, total_added, removed_nothing, length_of, length_more, length_less, pages_more, pages_less}
+use Rattle.tq_space.proofs.Enough.{enough_more, enough_first, enough_rest, last_first, none_of, some_of}
+use Rattle.tq_space.proofs.Steps.{enqueue_refused, refused_badly, refused_room, enqueue_planned, dequeue_is, dequeue_refusal_is, dequeue_refused, dequeue_planned}
+use Rattle.tq_space.proofs.space.Space.remove.Goals as goal
+
+pub overflow_sub-self : goal.overflow_sub-self
+overflow_sub-self c =
+    let qs = c.self.inside.shelf.queues in
+    let messages : c.self.inside.messages ≡ total length_of qs = c.self.invariant.messages in
+    let pages : c.self.inside.pages ≡ total queue_pages qs = c.self.invariant.pages in
+    let id = c.args.id.now in
+    let entry = c.in-Some.entry in
+    let gone : item_with_id id qs ≡ Some (item_of entry) = sym c.in-Some.ensures.entry in
+    let fewer : total length_of (item_removed id qs) + 1 ≡ total length_of qs = total_removed length_of (λ item. 1) length_less id (item_of entry) qs gone in
+    let less : total queue_pages (item_removed id qs) + pages_at entry.message.qos (length entry.message.body) ≡ total queue_pages qs = total_removed queue_pages item_pages pages_less id (item_of entry) qs gone in
+    omega (arith, messages, fewer)
+
+pub overflow_sub-self-in-Some : goal.overflow_sub-self-in-Some
+overflow_sub-self-in-Some c =
+    let qs = c.self.inside.shelf.queues in
+    let messages : c.self.inside.messages ≡ total length_of qs = c.self.invariant.messages in
+    let pages : c.self.inside.pages ≡ total queue_pages qs = c.self.invariant.pages in
+    let id = c.args.id.now in
+    let entry = c.in-Some.entry in
+    let gone : item_with_id id qs ≡ Some (item_of entry) = sym c.in-Some.ensures.entry in
+    let fewer : total length_of (item_removed id qs) + 1 ≡ total length_of qs = total_removed length_of (λ item. 1) length_less id (item_of entry) qs gone in
+    let less : total queue_pages (item_removed id qs) + pages_at entry.message.qos (length entry.message.body) ≡ total queue_pages qs = total_removed queue_pages item_pages pages_less id (item_of entry) qs gone in
+    omega (arith, pages, less, c.entry_pages.ensures)
+
+pub invariant_of-self : goal.invariant_of-self
+invariant_of-self c =
+    let qs = c.self.inside.shelf.queues in
+    let messages : c.self.inside.messages ≡ total length_of qs = c.self.invariant.messages in
+    let pages : c.self.inside.pages ≡ total queue_pages qs = c.self.invariant.pages in
+    let id = c.args.id.now in
+    let entry = c.in-Some.entry in
+    let gone : item_with_id id qs ≡ Some (item_of entry) = sym c.in-Some.ensures.entry in
+    let fewer : total length_of (item_removed id qs) + 1 ≡ total length_of qs = total_removed length_of (λ item. 1) length_less id (item_of entry) qs gone in
+    let less : total queue_pages (item_removed id qs) + pages_at entry.message.qos (length entry.message.body) ≡ total queue_pages qs = total_removed queue_pages item_pages pages_less id (item_of entry) qs gone in
+    let now_fewer : total length_of c.remove.new.self.queues ≡ total length_of (item_removed id qs) = ap (λ (l : List IndexedQueue). total length_of l) c.remove.ensures.queues in
+    let now_less : total queue_pages c.remove.new.self.queues ≡ total queue_pages (item_removed id qs) = ap (λ (l : List IndexedQueue). total queue_pages l) c.remove.ensures.queues in
+    let new_messages : c.self.inside.messages - 1 ≡ total length_of c.remove.new.self.queues = omega (arith, messages, fewer, now_fewer) in
+    let new_pages : c.self.inside.pages - c.entry_pages.result ≡ total queue_pages c.remove.new.self.queues = omega (arith, pages, less, now_less, c.entry_pages.ensures) in
+    record {
+      messages = new_messages;
+      pages = new_pages;
+      messages_most = omega (arith, c.self.invariant.messages_most);
+      pages_most = omega (arith, c.self.invariant.pages_most);
+    }
+
+pub invariant_of-self-in_default : goal.invariant_of-self-in_default
+invariant_of-self-in_default c =
+    let qs = c.self.inside.shelf.queues in
+    let messages : c.self.inside.messages ≡ total length_of qs = c.self.invariant.messages in
+    let pages : c.self.inside.pages ≡ total queue_pages qs = c.self.invariant.pages in
+    let id = c.args.id.now in
+    let none : item_with_id id qs ≡ None = sym c.remove.ensures.entry ∙ ap (option_map item_of) c.in_default.is in
+    let same : c.remove.new.self.queues ≡ qs = c.remove.ensures.queues ∙ removed_nothing id qs none in
+    record {
+      messages = messages ∙ ap (λ (l : List IndexedQueue). total length_of l) (sym same);
+      pages = pages ∙ ap (λ (l : List IndexedQueue). total queue_pages l) (sym same);
+      messages_most = c.self.invariant.messages_most;
+      pages_most = c.self.invariant.pages_most;
+    }

@@ -1,0 +1,474 @@
+ghost use Rattle.std.specs.Prelude.{◌≡◌, ℕ, true, false, ◌+◌, ◌-◌, ◌*◌, option_copied, option_to_list, if◌then◌else◌, ◌≤◌, [], ◌∷◌, length, IfOk, OnOk, OnErr, MatchOption, Some, None, option_map};
+ghost use Rattle.tq_model.specs.Space.{new_space, overhead_pages, divided_up, body_length};
+ghost use Rattle.tq_model.specs.Moves.{item_of, space_of, purged_of, moved, moved_by, has_index, item_with_id};
+ghost use Rattle.std.specs.List.{find, list_any};
+ghost use Rattle.tq_space.specs.Reads.{indexed_named};
+ghost use Rattle.tq_model.specs.Room.{pages_for, pages_at, message_rooms, first_lacking};
+ghost use Rattle.tq_model.specs.EnqueueStep.{quality, next_id, enqueue_step, enqueue_refusal};
+ghost use Rattle.tq_model.specs.DequeueStep.{dequeue_step, dequeue_refusal, delivered, content_bytes};
+ghost use Rattle.tq_space.specs.Plain.{IsPlainEnqueue, IsPlainDequeue, IsPlainEntry, IsEnough, CanMoveBy, CanMove, need_of, ready_after};
+ghost use Rattle.tq_space.specs.Applied.{plan_applied};
+ghost use Rattle.tq_space.specs.Planned.{MeetsStep, IsRefused};
+ghost use Rattle.tq_space.specs.NewEntry.{plain_item, rooms};
+
+use crate::plans::{Moves, Plan, Purge, Refusal};
+use crate::shelf::Shelf;
+use std::alloc::{AllocError, Global};
+use std::marker::Model;
+use tq_model::{
+    CallAnswer, Delivery, DequeueAsk, DequeueCall, EnqueueAsk, QueueDef, Shape, SpaceMove,
+};
+use tq_types::{
+    Arrival, AskedQos, Body, Entry, Label, Lack, Mark, Message, MsgId, Name, Path, Qos, Resource,
+    Root,
+};
+
+/// The limits of a space's creation; the pages are those for messages.
+#[derive(Clone, Copy, Debug)]
+struct SpaceLimits {
+    pages: u32,
+    queues: u16,
+    messages: u16,
+    transactions: u16,
+    memory: u64,
+}
+
+/// One queue space in memory. Clauses see the space with the indices of its queues, and for how
+/// many more entries or queues there is room without memory.
+#[derive(Drop)]
+pub struct Space {
+    site: u32,
+    number: u32,
+    limits: SpaceLimits,
+    error: Option<Name>,
+    shelf: Shelf,
+    messages: u64,
+    pages: u64,
+}
+
+impl Model for Space {
+    ghost use Rattle.tq_space.specs.State.{SpaceState};
+
+    ghost Value = { SpaceState };
+
+    ghost use Rattle.tq_space.specs.Kept.{space_view, IsSpace};
+
+    ghost view = { space_view };
+
+    ghost invariant = { IsSpace };
+}
+
+/// The pages of a space with so many queues, messages and transactions that are not for messages.
+fn overhead_for(queues: u16, messages: u16, transactions: u16) -> u64
+    ensures { result ≡ 1 + 2 * (divided_up (64 + 512 * queues + 64 * messages + 160 * transactions) 1024 + (16 + divided_up (72 * messages) 1024)) }
+{
+    let slots = 64
+        + 512 * u64::from(queues)
+        + 64 * u64::from(messages)
+        + 160 * u64::from(transactions);
+    let log = 72 * u64::from(messages);
+    1 + 2 * ((slots + 1023) / 1024 + (16 + (log + 1023) / 1024))
+}
+
+/// The pages that are not for messages.
+fn overhead_of(shape: &Shape) -> u64
+    ensures { result ≡ overhead_pages shape.now }
+{
+    overhead_for(shape.queues, shape.messages, shape.transactions)
+}
+
+/// The pages of a message with a body of `n` bytes.
+fn body_pages(n: usize) -> u64
+    ensures pages { result ≡ pages_for n }
+    ensures most { n ≤ 65536 → result ≤ 65 }
+{
+    let n = n as u64;
+    n / 1016 + (n % 1016 + 1271) / 1016
+}
+
+/// The pages that a message takes: none where it is not persistent.
+fn message_pages(qos: Qos, n: usize) -> u64
+    ensures pages { result ≡ pages_at qos n }
+    ensures most { n ≤ 65536 → result ≤ 65 }
+{
+    match qos {
+        Qos::Persistent => body_pages(n),
+        Qos::NonPersistent => 0,
+    }
+}
+
+/// The quality that is asked for, or the queue's default.
+fn chosen(asked: AskedQos, default: Qos) -> Qos
+    ensures { result ≡ quality asked default }
+{
+    match asked {
+        AskedQos::Default => default,
+        AskedQos::Persistent => Qos::Persistent,
+        AskedQos::NonPersistent => Qos::NonPersistent,
+    }
+}
+
+/// The first of messages and pages that is lacking.
+fn first_lack(
+    messages: u64,
+    message_limit: u64,
+    pages: u64,
+    page_limit: u64,
+    need: u64,
+) -> Option<Lack>
+    requires messages_fit { messages ≤ message_limit }
+    requires pages_fit { pages ≤ page_limit }
+    requires limits_fit { message_limit + page_limit + need ≤ 1000000000000 }
+    ensures { result ≡ first_lacking (rooms messages message_limit pages page_limit need) }
+{
+    if messages + 1 > message_limit {
+        return Some(Lack {
+            resource: Resource::Messages,
+            need: 1,
+            held: messages,
+            limit: message_limit,
+        });
+    }
+    if need + pages > page_limit {
+        return Some(Lack {
+            resource: Resource::Pages,
+            need,
+            held: pages,
+            limit: page_limit,
+        });
+    }
+    None
+}
+
+/// The entry of an enqueue that is granted.
+fn new_entry(ask: &EnqueueAsk, index: u16, qos: Qos, id: MsgId) -> Result<Entry, AllocError>
+    requires { IsPlainEnqueue ask.now }
+    ensures item { IfOk result (λ e. item_of e ≡ plain_item ask.now.call qos id ask.now.next) }
+    ensures queue { IfOk result (λ e. e.queue ≡ index) }
+    ensures plain { IfOk result IsPlainEntry }
+    ensures pages { IfOk result (λ e. pages_at e.message.qos (length e.message.body) ≡ pages_at qos (length ask.now.call.body)) }
+{
+    let call = &ask.call;
+    Ok(Entry {
+        queue: index,
+        label: Label {
+            root: Root {
+                top: false,
+                priority: call.priority,
+                available: call.available,
+                expiration: call.expiration,
+                arrival: ask.next,
+            },
+            path: Path::empty(),
+        },
+        mark: Mark::Free,
+        message: Message {
+            id,
+            corr: call.corr,
+            replyq: call.replyq,
+            failq: call.failq,
+            priority: call.priority,
+            available: call.available,
+            expiration: call.expiration,
+            qos,
+            reply_qos: call.reply_qos,
+            urcode: 0,
+            retries: 0,
+            body: call.body.copy()?,
+        },
+    })
+}
+
+/// A plan of one move at most.
+fn plan_of(alloc: Global, item: Option<SpaceMove>, answer: CallAnswer) -> Result<Plan, AllocError>
+    ensures purge { IfOk result (λ plan. plan.purge ≡ []) }
+    ensures moves { IfOk result (λ plan. plan.moves ≡ option_to_list item) }
+    ensures answer { IfOk result (λ plan. plan.answer ≡ Some answer) }
+{
+    let mut moves = Moves::new(alloc);
+    if let Some(item) = item {
+        moves.push(item)?;
+    }
+    Ok(Plan {
+        purge: Purge::new(alloc),
+        moves,
+        answer: Some(answer),
+    })
+}
+
+/// A removal, but of nothing at a peek.
+fn removal(peek: bool, id: MsgId) -> Option<SpaceMove>
+    ensures { result ≡ (if peek then None else Some (SpaceMove.Remove id)) }
+{
+    if peek {
+        None
+    } else {
+        Some(SpaceMove::Remove(id))
+    }
+}
+
+/// An entry as it is handed out.
+fn delivery_of(entry: &Entry, call: &DequeueCall) -> Result<Delivery, AllocError>
+    ensures { IfOk result (λ d. CallAnswer.Dequeued d ≡ delivered call.now (item_of entry.now)) }
+{
+    let id = if call.asked.wants_id() {
+        Some(entry.message.id)
+    } else {
+        None
+    };
+    Ok(Delivery {
+        body: entry.message.body.copy()?,
+        urcode: entry.message.urcode,
+        id,
+    })
+}
+
+/// The pages of an entry.
+fn entry_pages(entry: &Entry) -> u64
+    ensures { result ≡ pages_at entry.now.message.qos (length entry.now.message.body) }
+{
+    message_pages(entry.message.qos, entry.message.body.len())
+}
+
+impl Space {
+    /// A space without queues and entries, and with no room made; its identifiers have this site and
+    /// this number.
+    pub fn new(alloc: Global, shape: &Shape, site: u32, number: u32) -> Space
+        ensures space { space_of result.held ≡ new_space shape.now site number }
+        ensures ready { result.ready ≡ 0 }
+    {
+        let pages = u64::from(shape.pages).saturating_sub(overhead_of(shape));
+        Space {
+            site,
+            number,
+            limits: SpaceLimits {
+                pages: pages as u32,
+                queues: shape.queues,
+                messages: shape.messages,
+                transactions: shape.transactions,
+                memory: shape.memory,
+            },
+            error: shape.error,
+            shelf: Shelf::new(alloc),
+            messages: 0,
+            pages: 0,
+        }
+    }
+
+    /// The first of messages and pages that a message of so many pages lacks.
+    fn lack(&self, need: u64) -> Option<Lack>
+        requires { need ≤ 65 }
+        ensures { result ≡ first_lacking (message_rooms (space_of self.now.held) (space_of self.now.held) need) }
+    {
+        first_lack(
+            self.messages,
+            u64::from(self.limits.messages),
+            self.pages,
+            u64::from(self.limits.pages),
+            need,
+        )
+    }
+
+    /// The identifier of the message to come.
+    fn id_of(&self, next: Arrival) -> MsgId
+        ensures { result ≡ next_id (space_of self.now.held) next }
+    {
+        MsgId {
+            site: self.site,
+            space: self.number,
+            epoch: next.epoch,
+            number: next.number,
+        }
+    }
+
+    /// What an enqueue makes of the space: a plan exactly where the machine's step refuses nothing,
+    /// else that refusal. Nothing is changed.
+    ///
+    /// # Errors
+    /// `BadQueue` where there is no such queue, `NoSpace` with the first resource that is lacking.
+    pub fn plan_enqueue(&self, alloc: Global, ask: &EnqueueAsk) -> Result<Plan, Refusal>
+        requires plain { IsPlainEnqueue ask.now }
+        requires checked { length ask.now.call.body ≤ 65536 }
+        ensures step { MeetsStep result (enqueue_step (space_of self.now.held) ask.now.call ask.now.clock ask.now.next) (enqueue_refusal (space_of self.now.held) ask.now.call ask.now.clock) self.now.held }
+        // the condition under which no refusal comes
+        ensures granted { enqueue_refusal (space_of self.now.held) ask.now.call ask.now.clock ≡ None → IsRefused result → ⊥ }
+    {
+        let Some(queue) = self.shelf.named(&ask.call.queue) else {
+            return Err(Refusal::Refused(CallAnswer::BadQueue, Purge::new(alloc)));
+        };
+        let qos = chosen(ask.call.qos, queue.qos);
+        if let Some(lack) = self.lack(message_pages(qos, ask.call.body.len())) {
+            return Err(Refusal::Refused(CallAnswer::NoSpace(lack), Purge::new(alloc)));
+        }
+        let id = self.id_of(ask.next);
+        let Ok(entry) = new_entry(ask, queue.index, qos, id) else {
+            return Err(Refusal::NoMemory);
+        };
+        let answer = CallAnswer::Enqueued(asked_id(ask.call.want_id, id));
+        let Ok(plan) = plan_of(alloc, Some(SpaceMove::Insert(entry)), answer) else {
+            return Err(Refusal::NoMemory);
+        };
+        Ok(plan)
+    }
+
+    /// What a dequeue makes of the space: a plan exactly where the machine's step refuses nothing,
+    /// else that refusal. Nothing is changed. The body in the answer is a copy.
+    ///
+    /// # Errors
+    /// `BadQueue` where there is no such queue, `NoMessage` where no entry answers the call.
+    pub fn plan_dequeue(&self, alloc: Global, ask: &DequeueAsk) -> Result<Plan, Refusal>
+        requires plain { IsPlainDequeue ask.now }
+        ensures step { MeetsStep result (dequeue_step (space_of self.now.held) ask.now.call ask.now.clock) (dequeue_refusal (space_of self.now.held) ask.now.call ask.now.clock) self.now.held }
+        // the condition under which no refusal comes
+        ensures granted { dequeue_refusal (space_of self.now.held) ask.now.call ask.now.clock ≡ None → IsRefused result → ⊥ }
+    {
+        let Some(_queue) = self.shelf.named(&ask.call.queue) else {
+            return Err(Refusal::Refused(CallAnswer::BadQueue, Purge::new(alloc)));
+        };
+        let Some(entry) = self.shelf.answering(&ask.call, ask.clock) else {
+            return Err(Refusal::Refused(CallAnswer::NoMessage, Purge::new(alloc)));
+        };
+        let Ok(delivery) = delivery_of(entry, &ask.call) else {
+            return Err(Refusal::NoMemory);
+        };
+        let item = removal(ask.call.peek, entry.message.id);
+        let Ok(plan) = plan_of(alloc, item, CallAnswer::Dequeued(delivery)) else {
+            return Err(Refusal::NoMemory);
+        };
+        Ok(plan)
+    }
+
+    /// Makes the room that `apply` needs for this plan. After an `Err` the space is as it was.
+    pub fn reserve(&mut self, plan: &Plan) -> Result<(), AllocError>
+        requires { IsEnough (length plan.now.moves) plan.now.moves }
+        ensures ready { OnOk result (IsEnough self.new.ready plan.now.moves) }
+        ensures held { self.new.held ≡ self.old.held }
+        ensures err { OnErr result (self.new ≡ self.old) }
+    {
+        self.shelf.reserve(plan.moves.as_slice().len())
+    }
+
+    /// Does a plan for which there is room: the purge, and then the moves. It takes no memory.
+    pub fn apply(&mut self, plan: Plan)
+        requires ready { IsEnough self.old.ready plan.moves }
+        requires can { CanMoveBy plan.moves (purged_of plan.purge self.old.held) }
+        ensures { self.new.held ≡ plan_applied plan self.old.held }
+    {
+        let Plan {
+            purge,
+            moves,
+            answer: _,
+        } = plan;
+        self.drop_all(&purge);
+        self.make_all(moves);
+    }
+
+    fn drop_all(&mut self, purge: &Purge)
+        ensures held { self.new.held ≡ purged_of purge.now self.old.held }
+        ensures ready { self.new.ready ≡ self.old.ready }
+    {
+        for id in purge.as_slice() {
+            self.remove(id);
+        }
+    }
+
+    fn make_all(&mut self, moves: Moves)
+        requires ready { IsEnough self.old.ready moves }
+        requires can { CanMoveBy moves self.old.held }
+        ensures { self.new.held ≡ moved_by moves self.old.held }
+    {
+        let mut left = moves.into_items();
+        left.reverse();
+        while let Some(item) = left.pop() {
+            self.make(item);
+        }
+    }
+
+    fn make(&mut self, item: SpaceMove)
+        requires ready { need_of item ≤ self.old.ready }
+        requires can { CanMove item self.old.held }
+        ensures held { self.new.held ≡ moved item self.old.held }
+        ensures ready { self.new.ready ≡ ready_after item self.old.ready }
+    {
+        match item {
+            SpaceMove::Insert(entry) => self.insert(entry),
+            SpaceMove::Remove(id) => self.remove(&id),
+            SpaceMove::PutQueue(index, def) => self.add_queue(index, &def),
+            SpaceMove::Replace(_) | SpaceMove::DropQueue(_) => unreachable!(),
+        }
+    }
+
+    fn insert(&mut self, entry: Entry)
+        requires ready { 1 ≤ self.old.ready }
+        requires can { CanMove (SpaceMove.Insert entry) self.old.held }
+        ensures held { self.new.held ≡ moved (SpaceMove.Insert entry) self.old.held }
+        ensures ready { self.new.ready + 1 ≡ self.old.ready }
+    {
+        let pages = entry_pages(&entry);
+        self.shelf.insert(entry);
+        self.messages += 1;
+        self.pages += pages;
+    }
+
+    fn remove(&mut self, id: &MsgId)
+        ensures held { self.new.held ≡ moved (SpaceMove.Remove id.now) self.old.held }
+        ensures ready { self.new.ready ≡ self.old.ready }
+    {
+        if let Some(entry) = self.shelf.remove(id) {
+            self.messages -= 1;
+            self.pages -= entry_pages(&entry);
+        }
+    }
+
+    fn add_queue(&mut self, index: u16, def: &QueueDef)
+        requires ready { 1 ≤ self.old.ready }
+        requires can { CanMove (SpaceMove.PutQueue index def.now) self.old.held }
+        ensures held { self.new.held ≡ moved (SpaceMove.PutQueue index def.now) self.old.held }
+        ensures ready { self.new.ready ≡ 0 }
+    {
+        self.shelf.add_queue(index, def);
+    }
+
+    /// A copy of the body of the entry with that identifier; none where there is no such entry.
+    pub fn body(&self, id: &MsgId) -> Result<Option<Body>, AllocError>
+        ensures { IfOk result (λ o. o ≡ option_map (λ item. content_bytes item.letter.body) (item_with_id id.now self.now.held.queues)) }
+    {
+        match self.shelf.with_id(id) {
+            Some(entry) => Ok(Some(entry.message.body.copy()?)),
+            None => Ok(None),
+        }
+    }
+
+    /// The length of the body of the entry with that identifier, if there is one.
+    pub fn body_length(&self, id: &MsgId) -> Option<usize>
+        ensures { result ≡ option_map (λ item. body_length item.letter.body) (item_with_id id.now self.now.held.queues) }
+    {
+        match self.shelf.with_id(id) {
+            Some(entry) => Some(entry.message.body.len()),
+            None => None,
+        }
+    }
+
+    /// The index of the queue of that name, if there is one.
+    pub fn queue_index(&self, name: &Name) -> Option<u16>
+        ensures { result ≡ option_map (λ q. q.index) (find (indexed_named name.now) self.now.held.queues) }
+    {
+        match self.shelf.named(name) {
+            Some(queue) => Some(queue.index),
+            None => None,
+        }
+    }
+
+    /// Whether a queue has that index.
+    pub fn holds_index(&self, index: u16) -> bool
+        ensures { result ≡ list_any (has_index index) self.now.held.queues }
+    {
+        self.shelf.holds_index(index)
+    }
+}
+
+fn asked_id(asked: bool, id: MsgId) -> Option<MsgId>
+    ensures { result ≡ (if asked then Some id else None) }
+{
+    if asked { Some(id) } else { None }
+}
