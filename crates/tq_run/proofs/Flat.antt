@@ -18,23 +18,23 @@ use Rattle.tq_run.specs.Output.{GivesText}
 use Rattle.tq_run.specs.Serial.{site_after, lines_text, IsSerial}
 use Rattle.tq_run.specs.Ending.{trace_of, machine_at_end, IsDone}
 
-abbrev faults_of : Stamp → ℕ
+abbrev pub faults_of : Stamp → ℕ
 faults_of s = s.faults
 
 -- each count that was told is the first
-told : (base : ℕ) (stamps : List Stamp) (k end : ℕ) → All (λ (s : Stamp). s.faults ≡ base) stamps → end ≡ base → get_or (map faults_of stamps) k end ≡ base
+pub told : (base : ℕ) (stamps : List Stamp) (k end : ℕ) → All (λ (s : Stamp). s.faults ≡ base) stamps → end ≡ base → get_or (map faults_of stamps) k end ≡ base
 told base [] k end all e = e
 told base (s ∷ stamps) zero end all e = all 0 s (omega arith)
 told base (s ∷ stamps) (suc k) end all e = told base stamps k end (λ i d lt. all (suc i) d (omega arith)) e
 
-before_told : (base at first other : ℕ) → first ≡ base → other ≡ base → cond (at == 0) first other ≡ base
+pub before_told : (base at first other : ℕ) → first ≡ base → other ≡ base → cond (at == 0) first other ≡ base
 before_told base at first other a b = pick (at == 0)
   where
     pick : (t : Bool) → cond t first other ≡ base
     pick true = a
     pick false = b
 
-not_below : (a b base : ℕ) → a ≡ base → b ≡ base → nat_lt a b ≡ false
+pub not_below : (a b base : ℕ) → a ≡ base → b ≡ base → nat_lt a b ≡ false
 not_below a b base e f = grind (arith, nat_tests)
 
 pub not_boot : (line : List ℕ) → line_request line ≢ Boot
@@ -48,17 +48,17 @@ no_boots : (lines : List (List ℕ)) → NoBoots (map line_request lines)
 no_boots [] = tt
 no_boots (line ∷ lines) = (not_boot line, no_boots lines)
 
-steady_is : (s : Site) (request : Request) → request ≢ Boot → steady_turn s request ≡ record { condition = Up (step s request).site; answer = (step s request).answer }
+pub steady_is : (s : Site) (request : Request) → request ≢ Boot → steady_turn s request ≡ record { condition = Up (step s request).site; answer = (step s request).answer }
 steady_is s Nothing ne = refl
 steady_is s Boot ne = absurd (ne refl)
 steady_is s (Bad column) ne = refl
 steady_is s TooLong ne = refl
 steady_is s (Device request) ne = refl
 
-abbrev up : Site → List ℕ → ℕ → Progress
+abbrev pub up : Site → List ℕ → ℕ → Progress
 up s text n = record { condition = Up s; text = text; line = n }
 
-abbrev told_turn : Progress → Turn → Progress
+abbrev pub told_turn : Progress → Turn → Progress
 told_turn p t = record { condition = t.condition; text = p.text ++ line_text p.line t.answer; line = p.line + 1 }
 
 abbrev chosen : Bool → Outcome → Outcome → Turn

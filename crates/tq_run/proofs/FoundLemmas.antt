@@ -18,10 +18,11 @@ same_site n = grind (arith, nat_tests)
 pub found_blank : (images : ℕ → List ℕ) → reading 0 (images 0) ≡ Blank → site_found 1 images ≡ Some (blank_site 1)
 found_blank images is = ap (λ (r : Reading). combined (r ∷ [])) is
 
+pub combined_holds : (c : Content) → combined (Holds c ∷ []) ≡ Some (site_read (Holds c ∷ []))
+combined_holds c = ap (λ (b : Bool). cond (b && true) (Some (site_read (Holds c ∷ []))) None) (same_site c.site)
+
 pub found_holds : (images : ℕ → List ℕ) (c : Content) → reading 0 (images 0) ≡ Holds c → site_found 1 images ≡ Some (site_read (Holds c ∷ []))
-found_holds images c is =
-    ap (λ (r : Reading). combined (r ∷ [])) is
-    ∙ ap (λ (b : Bool). cond (b && true) (Some (site_read (Holds c ∷ []))) None) (same_site c.site)
+found_holds images c is = ap (λ (r : Reading). combined (r ∷ [])) is ∙ combined_holds c
 
 pub found_damaged : (images : ℕ → List ℕ) → reading 0 (images 0) ≡ Damaged → site_found 1 images ≡ None
 found_damaged images is = ap (λ (r : Reading). combined (r ∷ [])) is

@@ -4,3 +4,7 @@ pub mod Lines
 pub mod Attending
 pub mod Flat
 pub mod Statuses
+pub mod Waiting
+pub mod Stopping
+pub mod Booting
+pub mod AtStops

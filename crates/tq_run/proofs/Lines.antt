@@ -59,3 +59,6 @@ some_more a b c same first second = (
 -- nothing is given
 pub none_given : (a b : View) → b.streams.output ≡ a.streams.output → b.streams.stamps ≡ a.streams.stamps → GivesSome a b
 none_given a b output stamps = ([], record { output = output ∙ sym (append-nil a.streams.output); added = []; stamps = stamps ∙ sym (append-nil a.streams.stamps); long = refl; steady = λ k d lt. absurd (omega arith) })
+
+pub requests_first : (rest line behind : List ℕ) → script_lines rest ≡ line ∷ script_lines behind → script_requests rest ≡ line_request line ∷ script_requests behind
+requests_first rest line behind e = ap (λ (ls : List (List ℕ)). map line_request ls) e

@@ -5,3 +5,4 @@ pub mod Input
 pub mod Output
 pub mod Serial
 pub mod Ending
+pub mod Stops

@@ -1,7 +1,9 @@
 ghost use Rattle.std.specs.Prelude.{◌≡◌, ◌≢◌, ◌<◌, ◌≤◌, ◌+◌, ◌-◌, List, ℕ, IfOk, IfErr, OnOk, IfNone, None};
-ghost use Rattle.tq_host.specs.Within.{KeepsRest};
+ghost use Rattle.tq_host.specs.Within.{KeepsRest, Within};
 ghost use Rattle.tq_model.specs.Step.{device_step, creation_refusal, create_device, list_device, ready, site_asked};
+ghost use Rattle.tq_device.specs.Content.{IsAnyStep};
 ghost use Rattle.tq_run.specs.Counts.{HasCounts};
+ghost use Rattle.tq_run.specs.Stops.{AreOn, IsEither};
 ghost use Rattle.tq_run.specs.Manager.{site_of, IsOn};
 
 use crate::manager::Manager;
@@ -100,6 +102,8 @@ fn create_device<H: Host>(
     ensures answer { IfOk result (λ a. a ≡ (create_device creation.now (site_of manager.old)).answer) }
     ensures site { OnOk result (site_of manager.new ≡ (create_device creation.now (site_of manager.old)).site) }
     ensures holds { OnOk result (H.tells.reads → IsOn manager.new ((H.view host.new).reads 0)) }
+    ensures stop { AreOn manager.old (H.view host.old) → Within 0 IsAnyStep (IsEither (site_of manager.old) (create_device creation.now (site_of manager.old)).site) (H.view host.old) (H.view host.new) }
+    ensures images { OnOk result (H.tells.reads → AreOn manager.old (H.view host.old) → AreOn manager.new (H.view host.new)) }
     ensures counts { HasCounts result (H.view host.old) (H.view host.new) }
     ensures rest { KeepsRest 0 (H.view host.old) (H.view host.new) }
     ensures only { IfErr result (λ e. e ≡ Stop.Device) }
@@ -124,6 +128,8 @@ pub fn serve_device<H: Host>(
     ensures answer { IfOk result (λ a. a ≡ (device_step (site_of manager.old) request.now).answer) }
     ensures site { OnOk result (site_of manager.new ≡ (device_step (site_of manager.old) request.now).site) }
     ensures holds { OnOk result (H.tells.reads → IsOn manager.new ((H.view host.new).reads 0)) }
+    ensures stop { AreOn manager.old (H.view host.old) → Within 0 IsAnyStep (IsEither (site_of manager.old) (device_step (site_of manager.old) request.now).site) (H.view host.old) (H.view host.new) }
+    ensures images { OnOk result (H.tells.reads → AreOn manager.old (H.view host.old) → AreOn manager.new (H.view host.new)) }
     ensures counts { HasCounts result (H.view host.old) (H.view host.new) }
     ensures rest { KeepsRest 0 (H.view host.old) (H.view host.new) }
     ensures only { IfErr result (λ e. e ≡ Stop.Device) }

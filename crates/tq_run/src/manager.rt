@@ -1,8 +1,12 @@
-ghost use Rattle.std.specs.Prelude.{◌≡◌, ◌≢◌, ◌<◌, ◌≤◌, ◌+◌, List, ℕ, false, IfOk, IfErr, OnOk};
-ghost use Rattle.tq_host.specs.Within.{KeepsRest};
+ghost use Rattle.std.specs.Prelude.{◌≡◌, ◌≢◌, ◌<◌, ◌≤◌, ◌+◌, List, ℕ, false, IfOk, IfErr, OnOk, Some};
+ghost use Rattle.tq_host.specs.View.{IsSettled};
+ghost use Rattle.tq_host.specs.Within.{KeepsRest, Within};
+ghost use Rattle.tq_model.specs.Site.{Site};
+ghost use Rattle.tq_model.specs.Step.{booted};
 ghost use Rattle.tq_model.specs.Reading.{site_found};
-ghost use Rattle.tq_device.specs.Content.{IsFoundOn, Stands};
+ghost use Rattle.tq_device.specs.Content.{IsFoundOn, Stands, IsSameImage, IsAny, IsAnyStep, IsOldOrRaised, content_view};
 ghost use Rattle.tq_run.specs.Counts.{HasCounts};
+ghost use Rattle.tq_run.specs.Stops.{HasNoNewImage, AreOn, IsEither};
 ghost use Rattle.tq_run.specs.Manager.{IsOn, is_bootable, IsBooted, IsRaised};
 
 use crate::status::Stop;
@@ -19,6 +23,8 @@ pub struct Manager {
 fn look<H: Host>(host: &mut H) -> Result<Found, Stop>
     ensures found { IfOk result (λ f. H.tells.reads → IsFoundOn f ((H.view host.old).reads 0)) }
     ensures still { (d : ℕ) → (H.view host.new).reads d ≡ (H.view host.old).reads d }
+    ensures stop { Within 0 IsSameImage IsAny (H.view host.old) (H.view host.new) }
+    ensures images { HasNoNewImage (H.view host.old) (H.view host.new) }
     ensures counts { HasCounts result (H.view host.old) (H.view host.new) }
     ensures rest { KeepsRest 0 (H.view host.old) (H.view host.new) }
     ensures only { IfErr result (λ e. e ≡ Stop.Device) }
@@ -33,6 +39,8 @@ fn raise<H: Host>(host: &mut H, content: &DeviceContent) -> Result<Manager, Stop
     ensures raised { IfOk result (λ m. H.tells.reads → IsRaised content.now m ((H.view host.new).reads 0)) }
     ensures damaged { result ≡ Err Stop.Damaged → content.now.epoch ≡ 4294967295 }
     ensures untouched { result ≡ Err Stop.Damaged → host.new ≡ host.old }
+    ensures stop { ((c : List ℕ) → (H.view host.old).may_leave 0 c → Stands content.now c) → Within 0 IsAnyStep (IsOldOrRaised (content_view content.now)) (H.view host.old) (H.view host.new) }
+    ensures on { IfOk result (λ m. H.tells.reads → AreOn m (H.view host.new)) }
     ensures counts { HasCounts result (H.view host.old) (H.view host.new) }
     ensures rest { KeepsRest 0 (H.view host.old) (H.view host.new) }
     ensures two { IfErr result (λ e. (e ≢ Stop.Damaged) → e ≡ Stop.Device) }
@@ -51,6 +59,8 @@ pub fn boot<H: Host>(host: &mut H) -> Result<Manager, Stop>
     ensures booted { IfOk result (λ m. H.tells.reads → IsBooted m (H.view host.old) (H.view host.new)) }
     ensures damaged { result ≡ Err Stop.Damaged → H.tells.reads → is_bootable (site_found 1 (H.view host.old).reads) ≡ false }
     ensures untouched { result ≡ Err Stop.Damaged → (d : ℕ) → (H.view host.new).reads d ≡ (H.view host.old).reads d }
+    ensures stop { H.tells.reads → IsSettled 0 (H.view host.old) → (found : Site) → site_found 1 (H.view host.old).reads ≡ Some found → Within 0 IsAnyStep (IsEither found (booted found)) (H.view host.old) (H.view host.new) }
+    ensures on { IfOk result (λ m. H.tells.reads → IsSettled 0 (H.view host.old) → AreOn m (H.view host.new)) }
     ensures counts { HasCounts result (H.view host.old) (H.view host.new) }
     ensures rest { KeepsRest 0 (H.view host.old) (H.view host.new) }
     ensures two { IfErr result (λ e. (e ≢ Stop.Damaged) → e ≡ Stop.Device) }

@@ -1,6 +1,11 @@
-ghost use Rattle.std.specs.Prelude.{◌≡◌, ◌≢◌, ◌⊎◌, ◌<◌, ◌≤◌, ◌+◌, ◌++◌, ◌↔◌, true, false, [], List, ℕ, map, string_bytes, OnOk, IfErr, None, Some};
+ghost use Rattle.std.specs.Prelude.{◌≡◌, ◌≢◌, ◌⊎◌, ◌<◌, ◌≤◌, ◌+◌, ◌++◌, ◌↔◌, true, false, [], ◌∷◌, List, ℕ, map, string_bytes, OnOk, IfErr, None, Some};
 ghost use Rattle.tq_host.specs.Calls.{HasCauseOf, Rose};
-ghost use Rattle.tq_host.specs.View.{TellsAll};
+ghost use Rattle.tq_host.specs.View.{TellsAll, Picture, IsSettled};
+ghost use Rattle.tq_host.specs.Within.{Ran};
+ghost use Rattle.tq_model.specs.Step.{can_boot};
+ghost use Rattle.tq_model.specs.declared.request.Request.{Request};
+ghost use Rattle.tq_model.specs.declared.request.Request.TheVariants as requests;
+ghost use Rattle.tq_run.specs.Stops.{AreOn, IsStopped, IsOfRun};
 ghost use Rattle.tq_model.specs.Site.{Site};
 ghost use Rattle.tq_model.specs.Grammar.{script_requests};
 ghost use Rattle.tq_model.specs.Reading.{site_found};
@@ -41,6 +46,7 @@ fn answer_script<H: Host>(
     ensures much { result ≡ Err Stop.TooMuchInput → H.tells.output → (H.view host.new).streams.taken ≡ (H.view host.old).streams.taken + limit }
     ensures less { (result ≢ Err Stop.TooMuchInput) → (result ≢ Err Stop.Memory) → H.tells.output → (H.view host.new).streams.taken < (H.view host.old).streams.taken + limit }
     ensures most { H.tells.output → (H.view host.new).streams.taken ≤ (H.view host.old).streams.taken + limit }
+    ensures stop { H.tells.reads → H.tells.script → H.tells.output → AreOn manager.old (H.view host.old) → Ran (IsStopped (site_of manager.old) 1 (script_requests (H.view host.old).streams.script) (H.view host.old) (H.view host.new)) (H.view host.old) (H.view host.new) }
     ensures counts { HasCounts result (H.view host.old) (H.view host.new) }
     ensures undamaged { result ≢ Err Stop.Damaged }
 {
@@ -59,6 +65,8 @@ fn attend<H: Host>(alloc: Global, path: &str, host: &mut H, limit: u64) -> Resul
     ensures much { result ≡ Err Stop.TooMuchInput → H.tells.output → (H.view host.new).streams.taken ≡ (H.view host.old).streams.taken + limit }
     ensures less { (result ≢ Err Stop.TooMuchInput) → (result ≢ Err Stop.Memory) → H.tells.output → (H.view host.new).streams.taken < (H.view host.old).streams.taken + limit }
     ensures most { H.tells.output → (H.view host.new).streams.taken ≤ (H.view host.old).streams.taken + limit }
+    ensures stop { TellsAll H.tells → IsSettled 0 (H.view host.old) → (found : Site) → site_found 1 (H.view host.old).reads ≡ Some found → can_boot found ≡ true
+        → Ran (IsStopped found 0 (requests.Boot ∷ script_requests (H.view host.old).streams.script) (H.view host.old) (H.view host.new)) (H.view host.old) (H.view host.new) }
     ensures counts { HasCounts result (H.view host.old) (H.view host.new) }
 {
     host.attach(0, path).map_err(|_| Stop::Device)?;
@@ -97,6 +105,8 @@ pub fn run_within<H: Host>(alloc: Global, words: &[String], host: &mut H, limit:
     ensures too_much_always { H.tells.output → (H.view host.new).streams.taken ≡ (H.view host.old).streams.taken + limit → (result ≡ Status.TooMuchInput) ⊎ (result ≡ Status.NoMemory) }
     ensures most { H.tells.output → (H.view host.new).streams.taken ≤ (H.view host.old).streams.taken + limit }
     ensures done { result ≡ Status.Done → TellsAll H.tells → (found : Site) → site_found 1 (H.view host.old).reads ≡ Some found → IsDone (H.view host.old) (H.view host.new) found }
+    ensures stop { TellsAll H.tells → IsSettled 0 (H.view host.old) → (found : Site) → site_found 1 (H.view host.old).reads ≡ Some found → can_boot found ≡ true
+        → (p : Picture) → (H.view host.new).left_since (H.view host.old).clock p → IsOfRun (H.view host.old) (H.view host.new) found p }
     ensures complete { result ≢ Status.Usage → H.tells.reads → is_bootable (site_found 1 (H.view host.old).reads) ≡ true → NoneRose (H.view host.old) (H.view host.new) → IsComplete result }
 {
     match device_path(words) {
@@ -132,6 +142,11 @@ pub fn run<H: Host>(alloc: Global, words: &[String], host: &mut H) -> Status
 
     // The whole run is the machine's.
     ensures done { result ≡ Status.Done → TellsAll H.tells → (found : Site) → site_found 1 (H.view host.old).reads ≡ Some found → IsDone (H.view host.old) (H.view host.new) found }
+
+    // At every stop within the run, the device stands for the machine after some number of whole lines, as many as were
+    // answered or one more, and the output is a first part of the text of these.
+    ensures stop { TellsAll H.tells → IsSettled 0 (H.view host.old) → (found : Site) → site_found 1 (H.view host.old).reads ≡ Some found → can_boot found ≡ true
+        → (p : Picture) → (H.view host.new).left_since (H.view host.old).clock p → IsOfRun (H.view host.old) (H.view host.new) found p }
 
     // Where nothing stands against it, the run is done.
     ensures complete { result ≢ Status.Usage → H.tells.reads → is_bootable (site_found 1 (H.view host.old).reads) ≡ true → NoneRose (H.view host.old) (H.view host.new) → IsComplete result }

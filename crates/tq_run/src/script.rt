@@ -1,5 +1,7 @@
 ghost use Rattle.std.specs.Prelude.{◌≡◌, ◌≢◌, ◌<◌, ◌≤◌, ◌+◌, ◌++◌, [], List, ℕ, length, IfOk, IfErr, OnOk};
+ghost use Rattle.tq_host.specs.Within.{Ran};
 ghost use Rattle.tq_run.specs.Counts.{HasCounts};
+ghost use Rattle.tq_run.specs.Stops.{HasNoNewImage, IsWaiting};
 ghost use Rattle.tq_run.specs.Input.{IsRead, TakesOnly, IsTakenSoFar};
 
 use crate::status::Stop;
@@ -16,6 +18,8 @@ fn take_some<H: Host>(host: &mut H, script: &mut Vec<u8>, room: u64) -> Result<u
     ensures room { IfOk result (λ n. n ≤ room) }
     ensures refused { result ≡ Err Stop.Input → (H.view host.new).streams.taken ≡ (H.view host.old).streams.taken }
     ensures still { TakesOnly (H.view host.old) (H.view host.new) }
+    ensures waits { Ran (IsWaiting (H.view host.old)) (H.view host.old) (H.view host.new) }
+    ensures images { HasNoNewImage (H.view host.old) (H.view host.new) }
     ensures counts { HasCounts result (H.view host.old) (H.view host.new) }
     ensures two { IfErr result (λ e. (e ≢ Stop.Memory) → e ≡ Stop.Input) }
     ensures memory { result ≡ Err Stop.Memory → H.tells.output → (n : ℕ) × (n ≤ room) × ((H.view host.new).streams.taken ≡ (H.view host.old).streams.taken + n) }
@@ -38,6 +42,8 @@ pub fn read_script<H: Host>(alloc: Global, host: &mut H, limit: u64) -> Result<V
     requires { 0 < limit }
     ensures read { IfOk result (λ script. H.tells.script → IsRead script.items (H.view host.old).streams (H.view host.new).streams) }
     ensures still { TakesOnly (H.view host.old) (H.view host.new) }
+    ensures waits { Ran (IsWaiting (H.view host.old)) (H.view host.old) (H.view host.new) }
+    ensures images { HasNoNewImage (H.view host.old) (H.view host.new) }
     ensures counts { HasCounts result (H.view host.old) (H.view host.new) }
     ensures much { result ≡ Err Stop.TooMuchInput → H.tells.output → (H.view host.new).streams.taken ≡ (H.view host.old).streams.taken + limit }
     ensures less { OnOk result (H.tells.output → (H.view host.new).streams.taken < (H.view host.old).streams.taken + limit) }

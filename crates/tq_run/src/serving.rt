@@ -1,9 +1,13 @@
-ghost use Rattle.std.specs.Prelude.{◌≡◌, ◌≢◌, ◌<◌, ◌≤◌, ◌+◌, ◌++◌, [], List, ℕ, length, IfOk, IfErr, OnOk};
-ghost use Rattle.tq_host.specs.Within.{KeepsRest};
+ghost use Rattle.std.specs.Prelude.{◌≡◌, ◌≢◌, ◌<◌, ◌≤◌, ◌+◌, ◌++◌, [], ◌∷◌, List, ℕ, length, IfOk, IfErr, OnOk};
+ghost use Rattle.tq_host.specs.Calls.{IsGiving};
+ghost use Rattle.tq_host.specs.Within.{KeepsRest, Within, Ran};
+ghost use Rattle.tq_model.specs.declared.request.Request.{Request};
 ghost use Rattle.tq_model.specs.Step.{step};
 ghost use Rattle.tq_model.specs.Text.{line_text};
 ghost use Rattle.tq_model.specs.Grammar.{line_request, script_requests};
+ghost use Rattle.tq_device.specs.Content.{IsAnyStep};
 ghost use Rattle.tq_run.specs.Counts.{HasCounts};
+ghost use Rattle.tq_run.specs.Stops.{AreOn, HasNoNewImage, IsEither, IsStopped};
 ghost use Rattle.tq_run.specs.Manager.{site_of, IsOn};
 ghost use Rattle.tq_run.specs.Serial.{site_after, lines_text};
 ghost use Rattle.tq_run.specs.Output.{GivesText, GivesSome, KeepsInput};
@@ -27,6 +31,8 @@ pub fn give_answer<H: Host>(
     ensures some { H.tells.output → GivesSome (H.view host.old) (H.view host.new) }
     ensures input { KeepsInput (H.view host.old) (H.view host.new) }
     ensures still { (d : ℕ) → (H.view host.new).reads d ≡ (H.view host.old).reads d }
+    ensures gives { Ran (IsGiving (line_text line answer.now) (H.view host.old) (H.view host.new)) (H.view host.old) (H.view host.new) }
+    ensures images { HasNoNewImage (H.view host.old) (H.view host.new) }
     ensures counts { HasCounts result (H.view host.old) (H.view host.new) }
     ensures two { IfErr result (λ e. (e ≢ Stop.Memory) → e ≡ Stop.Output) }
 {
@@ -41,6 +47,8 @@ fn serve<H: Host>(host: &mut H, manager: &mut Manager, request: &Request) -> Res
     ensures answer { IfOk result (λ a. a ≡ (step (site_of manager.old) request.now).answer) }
     ensures site { OnOk result (site_of manager.new ≡ (step (site_of manager.old) request.now).site) }
     ensures holds { OnOk result (H.tells.reads → IsOn manager.new ((H.view host.new).reads 0)) }
+    ensures stop { AreOn manager.old (H.view host.old) → Within 0 IsAnyStep (IsEither (site_of manager.old) (step (site_of manager.old) request.now).site) (H.view host.old) (H.view host.new) }
+    ensures images { OnOk result (H.tells.reads → AreOn manager.old (H.view host.old) → AreOn manager.new (H.view host.new)) }
     ensures counts { HasCounts result (H.view host.old) (H.view host.new) }
     ensures rest { KeepsRest 0 (H.view host.old) (H.view host.new) }
     ensures only { IfErr result (λ e. e ≡ Stop.Device) }
@@ -68,6 +76,8 @@ fn serve_line<H: Host>(
     ensures gave { OnOk result (H.tells.output → GivesText (line_text number (step (site_of manager.old) (line_request line.now)).answer) (H.view host.old) (H.view host.new)) }
     ensures some { H.tells.output → GivesSome (H.view host.old) (H.view host.new) }
     ensures input { KeepsInput (H.view host.old) (H.view host.new) }
+    ensures stop { H.tells.reads → H.tells.output → AreOn manager.old (H.view host.old) → (more : List Request) → Ran (IsStopped (site_of manager.old) number (line_request line.now ∷ more) (H.view host.old) (H.view host.new)) (H.view host.old) (H.view host.new) }
+    ensures images { OnOk result (H.tells.reads → AreOn manager.old (H.view host.old) → AreOn manager.new (H.view host.new)) }
     ensures counts { HasCounts result (H.view host.old) (H.view host.new) }
     ensures three { IfErr result (λ e. (e ≢ Stop.Memory) → (e ≢ Stop.Device) → e ≡ Stop.Output) }
 {
@@ -89,6 +99,7 @@ pub fn serve_lines<H: Host>(
     ensures gave { OnOk result (H.tells.output → GivesText (lines_text 1 (site_of manager.old) (script_requests script.now)) (H.view host.old) (H.view host.new)) }
     ensures some { H.tells.output → GivesSome (H.view host.old) (H.view host.new) }
     ensures input { KeepsInput (H.view host.old) (H.view host.new) }
+    ensures stop { H.tells.reads → H.tells.output → AreOn manager.old (H.view host.old) → Ran (IsStopped (site_of manager.old) 1 (script_requests script.now) (H.view host.old) (H.view host.new)) (H.view host.old) (H.view host.new) }
     ensures counts { HasCounts result (H.view host.old) (H.view host.new) }
     ensures three { IfErr result (λ e. (e ≢ Stop.Memory) → (e ≢ Stop.Device) → e ≡ Stop.Output) }
 {

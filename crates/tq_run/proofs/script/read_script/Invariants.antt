@@ -1,5 +1,7 @@
 use Rattle.std.proofs.Common.{◌≡◌, ℕ, ◌+◌, List, ◌++◌}
+use Rattle.tq_host.specs.Within.{Ran}
 use Rattle.tq_run.specs.Counts.{IsQuiet}
+use Rattle.tq_run.specs.Stops.{HasNoNewImage, IsWaiting}
 use Rattle.tq_run.specs.Input.{TakesOnly}
 use Rattle.tq_run.proofs.script.read_script.Given as goal
 
@@ -11,6 +13,8 @@ invariant-loop-left g l =
       bytes : g.H.Host.tells.script → l.script.items ++ now.streams.script ≡ start.streams.script;
       taken : g.H.Host.tells.output → now.streams.taken + l.left ≡ start.streams.taken + l.fn.limit;
       still : TakesOnly start now;
+      waits : Ran (IsWaiting start) start now;
+      images : HasNoNewImage start now;
       quiet : IsQuiet start now;
     }
 

@@ -3,8 +3,10 @@ use Rattle.tq_model.specs.Grammar.{script_requests}
 use Rattle.tq_run.specs.Counts.{IsQuiet}
 use Rattle.tq_run.specs.Manager.{site_of, IsOn}
 use Rattle.tq_run.specs.Serial.{site_after, lines_text}
-use Rattle.tq_run.specs.Output.{KeepsInput}
+use Rattle.tq_run.specs.Output.{GivesSome, KeepsInput}
+use Rattle.tq_run.specs.Stops.{AreOn}
 use Rattle.tq_run.proofs.Lines.{GaveSoFar}
+use Rattle.tq_run.proofs.Stopping.{ReachedTo, AreSafe}
 use Rattle.tq_run.proofs.serving.serve_lines.Given as goal
 
 abbrev pub invariant-loop-line : goal.invariant-loop-line
@@ -18,6 +20,9 @@ invariant-loop-line g l =
       gave : g.H.Host.tells.output → GaveSoFar (lines_text 1 (site_of l.fn.manager) (script_requests l.script)) (lines_text l.number (site_of l.manager) (script_requests l.rest)) start now;
       input : KeepsInput start now;
       quiet : IsQuiet start now;
+      some : g.H.Host.tells.output → GivesSome start now;
+      reached : ReachedTo g.H.Host.tells.output (site_of l.fn.manager) (script_requests l.script) (script_requests l.rest) l.number l.manager start now;
+      safe : g.H.Host.tells.reads → g.H.Host.tells.output → AreOn l.fn.manager start → AreSafe (site_of l.fn.manager) (script_requests l.script) l.manager start now;
     }
 
 abbrev pub decreases-loop-line : goal.decreases-loop-line
