@@ -1,0 +1,4 @@
+pub mod Stretches
+pub mod Readings
+pub mod Contents
+pub mod Staging
