@@ -10,7 +10,7 @@ use Rattle.tq_host.proofs.Bytes.{before_or_after}
 use Rattle.tq_gate.specs.declared.layout.Layout.{Layout}
 use Rattle.tq_gate.specs.declared.layout.Areas.{Areas}
 use Rattle.tq_gate.specs.declared.layout.Areas.TheVariants.{One, Two}
-use Rattle.tq_gate.specs.Layout.{address, first_area, areas_end, base_length, log_length, layout_end, log_address, IsSelector, IsPlaced}
+use Rattle.tq_gate.specs.Layout.{address, first_area, areas_end, base_length, log_length, layout_end, log_address, area_by, IsSelector, IsPlaced}
 use Rattle.tq_gate.specs.Reading.{Content, content, chosen, area_of, base_in, log_in, log_reading, end_of, AreRecords}
 use Rattle.tq_gate.specs.Log.{IsOpen, IsSameButIn}
 use Rattle.tq_gate.proofs.Stretches.{length-bytes_from, get_or-bytes_from, bytes_from-same}
@@ -73,7 +73,7 @@ module _ (layout : Layout) where
   -- the chosen area stays where the selector does
   chosen_same : (areas : Areas) (a b : List ℕ) → ((i : ℕ) → IsSelector areas i → get_or b (address layout i) 0 ≡ get_or a (address layout i) 0) → chosen layout areas b ≡ chosen layout areas a
   chosen_same One a b same = refl
-  chosen_same (Two selector) a b same = ap (λ (byte : ℕ). if byte % 2 == 0 then first_area layout else first_area layout + (base_length layout + log_length layout)) (same selector refl)
+  chosen_same (Two selector) a b same = ap (area_by layout) (same selector refl)
 
   module _ (area : ℕ) (placed : IsPlaced layout area) where
     -- a byte of the log

@@ -2,3 +2,4 @@ pub mod Stretches
 pub mod Readings
 pub mod Contents
 pub mod Staging
+pub mod Quieting

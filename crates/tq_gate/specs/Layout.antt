@@ -1,5 +1,5 @@
 -- Where a gated log lies on a device.
-use Rattle.std.specs.Prelude.{◌≡◌, ◌<◌, ◌≤◌, ℕ, zero, suc, ◌+◌, ◌*◌, max, List, [], ◌∷◌, get_or}
+use Rattle.std.specs.Prelude.{◌≡◌, ◌<◌, ◌≤◌, ℕ, zero, suc, ◌+◌, ◌*◌, ◌%◌, ◌==◌, if◌then◌else◌, max, List, [], ◌∷◌, get_or}
 use Rattle.tq_gate.specs.declared.layout.Layout.{Layout}
 use Rattle.tq_gate.specs.declared.layout.Areas.{Areas}
 use Rattle.tq_gate.specs.declared.layout.Areas.TheVariants.{One, Two}
@@ -25,6 +25,10 @@ log_length layout = 1024 * layout.log_pages
 
 abbrev pub area_length : Layout → ℕ
 area_length layout = base_length layout + log_length layout
+
+-- the logical byte at which the area begins that a selector chooses: area A by an even one, area B by an odd one
+abbrev pub area_by : Layout → ℕ → ℕ
+area_by layout selector = if selector % 2 == 0 then first_area layout else first_area layout + area_length layout
 
 -- how long the areas are together
 abbrev pub total_length : Areas → ℕ → ℕ

@@ -1,3 +1,5 @@
 pub mod Layout
 pub mod Reading
 pub mod Log
+pub mod Loading
+pub mod Scanning

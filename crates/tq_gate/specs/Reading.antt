@@ -5,7 +5,7 @@ use Rattle.tq_field.specs.Places.{run_at, number_at}
 use Rattle.tq_gate.specs.declared.layout.Layout.{Layout}
 use Rattle.tq_gate.specs.declared.layout.Areas.{Areas}
 use Rattle.tq_gate.specs.declared.layout.Areas.TheVariants.{One, Two}
-use Rattle.tq_gate.specs.Layout.{address, bytes_from, first_area, base_length, log_length, area_length, layout_end}
+use Rattle.tq_gate.specs.Layout.{address, bytes_from, first_area, base_length, log_length, area_by, layout_end}
 
 -- The payloads from place p of a log on. An open gate, a length in 4 bytes and so many bytes are a payload, and a further byte has
 -- to follow; else there is no reading. The log ends where no open gate stands. At most so many payloads are read.
@@ -52,11 +52,10 @@ pub record Content : Type 0 where
   pub base : List ℕ
   pub payloads : List (List ℕ)
 
--- the logical byte at which the chosen area begins: area A by an even selector, area B by an odd one
+-- the logical byte at which the chosen area begins
 abbrev pub chosen : Layout → Areas → List ℕ → ℕ
 chosen layout One image = first_area layout
-chosen layout (Two selector) image =
-    if get_or image (address layout selector) 0 % 2 == 0 then first_area layout else first_area layout + area_length layout
+chosen layout (Two selector) image = area_by layout (get_or image (address layout selector) 0)
 
 abbrev pub area_of : Layout → List ℕ → ℕ
 area_of layout image = chosen layout layout.areas image

@@ -29,7 +29,7 @@ pub struct Layout {
 }
 
 impl Layout {
-    ghost use Rattle.tq_gate.specs.Layout.{address, first_area, base_length, log_length};
+    ghost use Rattle.tq_gate.specs.Layout.{address, first_area, base_length, log_length, area_by};
 
     // The byte of the device at which a logical byte lies.
     pub(crate) fn address(&self, at: u64) -> u64
@@ -58,5 +58,17 @@ impl Layout {
         ensures { result ≡ log_length self.now }
     {
         PAGE * u64::from(self.log_pages)
+    }
+
+    // The logical byte at which the area begins that this selector chooses.
+    pub(crate) fn area_by(&self, selector: u8) -> u64
+        ensures { result ≡ area_by self.now selector }
+    {
+        if selector % 2 == 0 {
+            self.first_area()
+        } else {
+            let pages = u64::from(self.base_pages) + u64::from(self.log_pages);
+            PAGE * (u64::from(self.first) + pages)
+        }
     }
 }

@@ -2,9 +2,13 @@
 //! leaves the old payloads or the new ones.
 #![tactic(auto)]
 
+mod fault;
 mod layout;
 mod log;
 mod pieces;
+mod reading;
+mod scanning;
 
+pub use fault::GateError;
 pub use layout::{Areas, Layout};
 pub use log::GateLog;
