@@ -11,10 +11,13 @@ use Rattle.tq_gate.specs.declared.layout.Layout.{Layout}
 use Rattle.tq_gate.specs.declared.layout.Areas.{Areas}
 use Rattle.tq_gate.specs.declared.layout.Areas.TheVariants.{One, Two}
 use Rattle.tq_gate.specs.Layout.{address, first_area, areas_end, base_length, log_length, layout_end, log_address, area_by, IsSelector, IsPlaced}
-use Rattle.tq_gate.specs.Reading.{Content, content, chosen, area_of, base_in, log_in, log_reading, end_of, AreRecords}
+use Rattle.tq_gate.specs.Reading.{Content, content, chosen, area_of, base_in, log_in, log_reading, end_of, AreRecords, IsDamagedAt}
 use Rattle.tq_gate.specs.Log.{IsOpen, IsSameButIn}
+use Rattle.tq_gate.specs.declared.fault.GateError.{GateError}
+use Rattle.tq_gate.specs.declared.fault.GateError.TheVariants.{Damaged, Device, NoMemory}
+use Rattle.tq_gate.specs.Loading.{IsDamaged, IsRefused, IsRefusedLog}
 use Rattle.tq_gate.proofs.Stretches.{length-bytes_from, get_or-bytes_from, bytes_from-same}
-use Rattle.tq_gate.proofs.Readings.{Read, log_read, log_reading_is, records_within, records_same}
+use Rattle.tq_gate.proofs.Readings.{Read, log_read, log_reading_is, damaged_none, records_within, records_same}
 
 -- what stands in an image that has this content
 pub record Whole (layout : Layout) (area : ℕ) (k : Content) (image : List ℕ) : Type 0 where
@@ -115,3 +118,30 @@ module _ (layout : Layout) where
     records_kept ps a b are same =
         let within : end_of ps ≤ log_length layout = omega (arith, records_within 0 ps (log_in layout area a) are, log_long a) in
         records_same 0 ps (log_in layout area a) (log_in layout area b) are (log_long b ∙ sym (log_long a)) (λ i lt. log_same (end_of ps) a b within same i (omega arith))
+
+    -- an image from which this base and this log were read
+    pub read_open : (end : ℕ) (k : Content) (log image : List ℕ) → layout_end layout ≤ length image → area ≡ area_of layout image → k.base ≡ base_in layout area image → log ≡ log_in layout area image
+        → AreRecords log 0 k.payloads → end ≡ end_of k.payloads → get_or log end 0 ≢ 79 → IsOpen layout area end k image
+    read_open end k log image long chosen_is base is records ends shut = open_whole area end k image ends (record {
+      long = long;
+      area_is = chosen_is;
+      base = sym base;
+      records = subst (λ (l : List ℕ). AreRecords l 0 k.payloads) is records;
+      shut = λ open_gate. shut (ap (λ (l : List ℕ). get_or l end 0) is ∙ ap (λ n. get_or (log_in layout area image) n 0) ends ∙ open_gate);
+    })
+
+    damaged_in : (place at : ℕ) (image : List ℕ) → layout_end layout ≤ length image → area ≡ area_of layout image → at ≡ log_address layout area place → IsDamagedAt (log_in layout area image) place → IsDamaged layout at image
+    damaged_in place at image long chosen_is gate_at damaged = record {
+      none = fits_some (layout_end layout) (length image) (content_in (area_of layout image) image) long
+          ∙ subst (λ (n : ℕ). content_in n image ≡ None) chosen_is (ap (option_map (λ (payloads : List (List ℕ)). record { base = base_in layout area image; payloads = payloads })) (damaged_none place (log_in layout area image) damaged));
+      place = place;
+      gate_at = gate_at ∙ ap (λ n. log_address layout n place) chosen_is;
+      damaged = subst (λ n. IsDamagedAt (log_in layout n image) place) chosen_is damaged;
+    }
+
+    -- and one whose log was refused
+    pub read_refused : (e : GateError) (log image : List ℕ) → layout_end layout ≤ length image → area ≡ area_of layout image → log ≡ log_in layout area image → IsRefusedLog layout area log e → IsRefused layout image e
+    read_refused (Damaged at) log image long chosen_is is refused =
+        damaged_in refused.0 at image long chosen_is refused.1 (subst (λ (l : List ℕ). IsDamagedAt l refused.0) is refused.2)
+    read_refused Device log image long chosen_is is refused = tt
+    read_refused NoMemory log image long chosen_is is refused = tt

@@ -3,3 +3,4 @@ pub mod Readings
 pub mod Contents
 pub mod Staging
 pub mod Quieting
+pub mod Opening

@@ -3,3 +3,4 @@ pub mod Reading
 pub mod Log
 pub mod Loading
 pub mod Scanning
+pub mod Loaded

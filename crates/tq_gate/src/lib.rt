@@ -4,6 +4,7 @@
 
 mod fault;
 mod layout;
+mod loading;
 mod log;
 mod pieces;
 mod reading;
@@ -11,4 +12,5 @@ mod scanning;
 
 pub use fault::GateError;
 pub use layout::{Areas, Layout};
+pub use loading::Loaded;
 pub use log::GateLog;

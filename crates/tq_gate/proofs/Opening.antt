@@ -1,0 +1,35 @@
+-- What was read of a log is its content.
+use Rattle.std.proofs.Common.{◌≡◌, ◌≢◌, ◌≤◌, ℕ, List, length, get_or, map, Result, Ok, Err, sym, subst, ◌∙◌}
+use Rattle.std.specs.Prelude.{IfOk, IfErr}
+use Rattle.tq_gate.specs.declared.layout.Layout.{Layout}
+use Rattle.tq_gate.specs.declared.fault.GateError.{GateError}
+use Rattle.tq_gate.specs.declared.loading.Loaded.{Loaded}
+use Rattle.tq_gate.specs.Layout.{layout_end, IsPlaced}
+use Rattle.tq_gate.specs.Reading.{area_of, base_in, log_in, end_of, AreRecords}
+use Rattle.tq_gate.specs.Log.{IsOpen, IsLog}
+use Rattle.tq_gate.specs.Loading.{IsRefused, IsRefusedLog}
+use Rattle.tq_gate.specs.Loaded.{content_of}
+use Rattle.tq_gate.proofs.Contents.{read_open, read_refused}
+
+-- what was read of an image before its log was opened
+pub record IsRead (layout : Layout) (area : ℕ) (base log image : List ℕ) : Type 0 where
+  pub long : layout_end layout ≤ length image
+  pub area_is : area ≡ area_of layout image
+  pub base_is : base ≡ base_in layout area image
+  pub log_is : log ≡ log_in layout area image
+
+module _ (layout : Layout) (area : ℕ) (placed : IsPlaced layout area) (base log image : List ℕ) (told : Type 0) (is : told → IsRead layout area base log image) where
+  pub opened_is : (r : Result Loaded GateError) → IfOk r (λ l. l.log.layout ≡ layout) → IfOk r (λ l. l.log.area ≡ area) → IfOk r (λ l. l.base.items ≡ base)
+      → IfOk r (λ l. AreRecords log 0 (map (λ v. v.items) l.payloads.items)) → IfOk r (λ l. l.log.end ≡ end_of (map (λ v. v.items) l.payloads.items)) → IfOk r (λ l. get_or log l.log.end 0 ≢ 79)
+      → IfOk r (λ l. told → IsLog l.log (content_of l) image)
+  opened_is (Ok l) layout_is area_is base_is records ends shut = λ t.
+      let read = is t in
+      let open_here = read_open layout area placed l.log.end (content_of l) log image read.long read.area_is (base_is ∙ read.base_is) read.log_is records ends shut in
+      subst (λ (n : ℕ). IsOpen l.log.layout n l.log.end (content_of l) image) (sym area_is)
+      (subst (λ (place : Layout). IsOpen place area l.log.end (content_of l) image) (sym layout_is) open_here)
+  opened_is (Err e) layout_is area_is base_is records ends shut = tt
+
+  pub refused_is : (r : Result Loaded GateError) → IfErr r (IsRefusedLog layout area log) → IfErr r (λ e. told → IsRefused layout image e)
+  refused_is (Ok l) refused = tt
+  refused_is (Err e) refused = λ t.
+      let read = is t in read_refused layout area placed e log image read.long read.area_is read.log_is refused
