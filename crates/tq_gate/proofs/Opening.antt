@@ -1,10 +1,10 @@
 -- What was read of a log is its content.
-use Rattle.std.proofs.Common.{◌≡◌, ◌≢◌, ◌≤◌, ℕ, List, length, get_or, map, Result, Ok, Err, sym, subst, ◌∙◌}
+use Rattle.std.proofs.Common.{◌≡◌, ◌≢◌, ◌≤◌, ℕ, ◌+◌, List, length, get_or, map, Result, Ok, Err, sym, ap, subst, ◌∙◌}
 use Rattle.std.specs.Prelude.{IfOk, IfErr}
 use Rattle.tq_gate.specs.declared.layout.Layout.{Layout}
 use Rattle.tq_gate.specs.declared.fault.GateError.{GateError}
 use Rattle.tq_gate.specs.declared.loading.Loaded.{Loaded}
-use Rattle.tq_gate.specs.Layout.{layout_end, IsPlaced}
+use Rattle.tq_gate.specs.Layout.{bytes_from, base_length, log_length, layout_end, IsPlaced}
 use Rattle.tq_gate.specs.Reading.{area_of, base_in, log_in, end_of, AreRecords}
 use Rattle.tq_gate.specs.Log.{IsOpen, IsLog}
 use Rattle.tq_gate.specs.Loading.{IsRefused, IsRefusedLog}
@@ -17,6 +17,16 @@ pub record IsRead (layout : Layout) (area : ℕ) (base log image : List ℕ) : T
   pub area_is : area ≡ area_of layout image
   pub base_is : base ≡ base_in layout area image
   pub log_is : log ≡ log_in layout area image
+
+-- the two reads of an image that stays
+pub is_read : (layout : Layout) (area n m : ℕ) (base log image first second : List ℕ) → layout_end layout ≤ length image → area ≡ area_of layout image → n ≡ base_length layout → m ≡ log_length layout → first ≡ image → second ≡ image
+    → base ≡ bytes_from layout area n first → log ≡ bytes_from layout (area + n) m second → IsRead layout area base log image
+is_read layout area n m base log image first second long chosen_is at_n at_m same_first same_second base_is log_is = record {
+  long = long;
+  area_is = chosen_is;
+  base_is = base_is ∙ ap (bytes_from layout area n) same_first ∙ ap (λ k. bytes_from layout area k image) at_n;
+  log_is = log_is ∙ ap (bytes_from layout (area + n) m) same_second ∙ ap (λ k. bytes_from layout (area + k) m image) at_n ∙ ap (λ k. bytes_from layout (area + base_length layout) k image) at_m;
+}
 
 module _ (layout : Layout) (area : ℕ) (placed : IsPlaced layout area) (base log image : List ℕ) (told : Type 0) (is : told → IsRead layout area base log image) where
   pub opened_is : (r : Result Loaded GateError) → IfOk r (λ l. l.log.layout ≡ layout) → IfOk r (λ l. l.log.area ≡ area) → IfOk r (λ l. l.base.items ≡ base)

@@ -163,7 +163,7 @@ module _ (log : GateLog) (k : Content) where
   opens_still x read start mid new r so_far call same = still log.layout.dev (IsSameButLog log) steps (IsOldOrNew log k x read) start mid new r so_far call same
 
   -- After the first piece each image is what is read, and has the payload staged.
-  pub middle_staged : (x : List ℕ) (old mid : View) {tells : Told} → IsLawful tells old → IsLawful tells mid → AreLog log k old
+  middle_staged : (x : List ℕ) (old mid : View) {tells : Told} → IsLawful tells old → IsLawful tells mid → AreLog log k old
       → (tells.reads → (m : Content) → IsLog log m (old.reads log.layout.dev) → IsStaged log m x (mid.reads log.layout.dev))
       → (tells.reads → IsSameButLog log (old.reads log.layout.dev) (mid.reads log.layout.dev)) → IsSettled log.layout.dev mid
       → AreStagedOver log k x (old.reads log.layout.dev) mid
@@ -177,9 +177,15 @@ module _ (log : GateLog) (k : Content) where
   pub keeps_old : (x : List ℕ) (old mid : View) → Keeps old mid → Within log.layout.dev (IsSameButLog log) (IsOldOrNew log k x (old.reads log.layout.dev)) old mid
   keeps_old x old mid first = weaker log.layout.dev (IsSameButLog log) steps (IsLog log k) (IsOldOrNew log k x (old.reads log.layout.dev)) old mid (λ b c may is. inl is.reads) first
 
-  pub then_opens : (x : List ℕ) (old mid new : View) → Keeps old mid → Within log.layout.dev (IsSameButLog log) (IsOldOrNew log k x (old.reads log.layout.dev)) mid new
+  -- both pieces
+  pub both_pieces : (x : List ℕ) (old mid new : View) {tells : Told} → IsLawful tells old → IsLawful tells mid → AreLog log k old → Keeps old mid
+      → (tells.reads → (m : Content) → IsLog log m (old.reads log.layout.dev) → IsStaged log m x (mid.reads log.layout.dev))
+      → (tells.reads → IsSameButLog log (old.reads log.layout.dev) (mid.reads log.layout.dev)) → IsSettled log.layout.dev mid
+      → ((m : Content) (y read : List ℕ) → AreStagedOver log m y read mid → Within log.layout.dev (IsSameButLog log) (IsOldOrNew log m y read) mid new)
       → Within log.layout.dev (IsSameButLog log) (IsOldOrNew log k x (old.reads log.layout.dev)) old new
-  then_opens x old mid new first second = in_a_row log.layout.dev (IsSameButLog log) steps (IsOldOrNew log k x (old.reads log.layout.dev)) old mid new (keeps_old x old mid first) second
+  both_pieces x old mid new lawful_old lawful_mid has first staged same settled second =
+      in_a_row log.layout.dev (IsSameButLog log) steps (IsOldOrNew log k x (old.reads log.layout.dev)) old mid new (keeps_old x old mid first)
+      (second k x (old.reads log.layout.dev) (middle_staged x old mid lawful_old lawful_mid has staged same settled))
 
   -- where each image is what is read, each has what that has
   pub images_too : (P : List ℕ → Type 0) (old new : View) {tells : Told} → IsLawful tells old → IsLawful tells new → AreLog log k old

@@ -1,5 +1,5 @@
 -- A gated log that is open.
-use Rattle.std.specs.Prelude.{◌≡◌, ◌⊎◌, ◌≤◌, ℕ, ◌+◌, Some, List, [], ◌∷◌, ◌++◌, length, get_or}
+use Rattle.std.specs.Prelude.{◌≡◌, ◌⊎◌, ◌≤◌, ℕ, ◌+◌, ◌-◌, Some, List, [], ◌∷◌, ◌++◌, length, get_or}
 use Rattle.tq_host.specs.View.{View}
 use Rattle.tq_host.specs.Calls.{StandsAt, IsSameBut}
 use Rattle.tq_field.specs.Digits.{digits}
@@ -25,6 +25,19 @@ AreLog log k v = (image : List ℕ) → v.may_leave log.layout.dev image → IsL
 -- the content with one payload more
 abbrev pub added : Content → List ℕ → Content
 added k payload = record k { payloads = k.payloads ++ payload ∷ [] }
+
+abbrev pub layout_of : GateLog → Layout
+layout_of log = log.layout
+
+-- the bytes of the log behind its payloads
+abbrev pub free_in : GateLog → ℕ
+free_in log = log_length log.layout - log.end
+
+-- nothing is changed
+pub record IsSameLog (old new : GateLog) : Type 0 where
+  pub layout : new.layout ≡ old.layout
+  pub area : new.area ≡ old.area
+  pub end : new.end ≡ old.end
 
 -- a payload of so many bytes fits: its gate, its length, itself and a closed gate
 abbrev pub FitsIn : GateLog → ℕ → Type 0

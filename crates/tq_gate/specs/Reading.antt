@@ -14,8 +14,8 @@ reading_from zero p log = Some []
 reading_from (suc most) p log =
     if get_or log p 0 == 79
     then (if nat_le (p + 6 + number_at (p + 1) 4 log) (length log)
-      then option_map (λ payloads. run_at (p + 5) (number_at (p + 1) 4 log) log ∷ payloads) (reading_from most (p + (5 + number_at (p + 1) 4 log)) log)
-      else None)
+    then option_map (λ payloads. run_at (p + 5) (number_at (p + 1) 4 log) log ∷ payloads) (reading_from most (p + (5 + number_at (p + 1) 4 log)) log)
+    else None)
     else Some []
 
 -- the payloads of a log

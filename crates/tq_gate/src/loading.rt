@@ -3,7 +3,7 @@ ghost use Rattle.tq_host.specs.Calls.{HasCauseOf};
 ghost use Rattle.tq_gate.specs.declared.fault.GateError.TheVariants as fault;
 ghost use Rattle.tq_gate.specs.Layout.{log_length, layout_end, IsLaidOut, IsPlaced};
 ghost use Rattle.tq_gate.specs.Reading.{end_of, AreRecords};
-ghost use Rattle.tq_gate.specs.Log.{IsLog};
+ghost use Rattle.tq_gate.specs.Log.{IsLog, layout_of};
 ghost use Rattle.tq_gate.specs.Loading.{IsQuiet, IsRefused, IsRefusedLog};
 ghost use Rattle.tq_gate.specs.Loaded.{content_of};
 
@@ -49,7 +49,11 @@ fn open_log(
                 area,
                 end: end as u64,
             };
-            Ok(Loaded { log, base, payloads })
+            Ok(Loaded {
+                log,
+                base,
+                payloads,
+            })
         }
         Err(ScanError::NoMemory) => Err(GateError::NoMemory),
         Err(ScanError::Damaged { at }) => {
@@ -69,7 +73,7 @@ impl GateLog {
         requires laid_out { IsLaidOut layout.now }
         requires reach { H.tells.reads → layout_end layout.now ≤ length ((H.view host.old).reads layout.now.dev) }
         ensures loaded { IfOk result (λ loaded. H.tells.reads → IsLog loaded.log (content_of loaded) ((H.view host.old).reads layout.now.dev)) }
-        ensures layout { IfOk result (λ loaded. loaded.log.layout ≡ layout.now) }
+        ensures layout { IfOk result (λ loaded. layout_of loaded.log ≡ layout.now) }
         ensures refused { IfErr result (λ e. H.tells.reads → IsRefused layout.now ((H.view host.old).reads layout.now.dev) e) }
         ensures quiet { IsQuiet layout.now.dev (H.view host.old) (H.view host.new) }
         ensures cause { HasCauseOf (IsErrOf result fault.Device) (H.view host.old).faults (H.view host.new).faults }

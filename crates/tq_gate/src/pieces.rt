@@ -13,6 +13,7 @@ use tq_host::{Failed, Host};
 
 /// The byte of an open gate.
 pub(crate) const OPEN_GATE: u8 = 0x4F;
+
 const CLOSED_GATE: u8 = 0;
 
 // The 4 bytes of a number.
@@ -66,8 +67,7 @@ pub(crate) fn open_gate<H: Host>(host: &mut H, log: &GateLog) -> Result<(), Fail
     ensures rest { KeepsRest log.now.layout.dev (H.view host.old) (H.view host.new) }
     ensures cause { HasCause (H.view host.old).faults (H.view host.new).faults result }
 {
-    let dev = log.layout.dev;
-    host.write_at(dev, log.address(log.end), &[OPEN_GATE])?;
-    host.sync(dev)?;
+    host.write_at(log.layout.dev, log.address(log.end), &[OPEN_GATE])?;
+    host.sync(log.layout.dev)?;
     Ok(())
 }

@@ -28,7 +28,12 @@ pub(crate) fn choose_area<H: Host>(host: &mut H, layout: &Layout) -> Result<u64,
 }
 
 // Fills `into` with the bytes from a logical byte on, a page at a time.
-fn read_into<H: Host>(host: &mut H, layout: &Layout, from: u64, into: &mut [u8]) -> Result<(), Failed>
+fn read_into<H: Host>(
+    host: &mut H,
+    layout: &Layout,
+    from: u64,
+    into: &mut [u8],
+) -> Result<(), Failed>
     requires dev { layout.now.dev < 8 }
     requires end { address layout.now (from + length into.old) ≤ 268435456 }
     requires reach { H.tells.reads → address layout.now (from + length into.old) ≤ length ((H.view host.old).reads layout.now.dev) }
@@ -48,7 +53,13 @@ fn read_into<H: Host>(host: &mut H, layout: &Layout, from: u64, into: &mut [u8])
 }
 
 // The bytes from a logical byte on.
-pub(crate) fn read_bytes<H: Host>(alloc: Global, host: &mut H, layout: &Layout, from: u64, count: u64) -> Result<Vec<u8>, GateError>
+pub(crate) fn read_bytes<H: Host>(
+    alloc: Global,
+    host: &mut H,
+    layout: &Layout,
+    from: u64,
+    count: u64,
+) -> Result<Vec<u8>, GateError>
     requires dev { layout.now.dev < 8 }
     requires end { address layout.now (from + count) ≤ 268435456 }
     requires reach { H.tells.reads → address layout.now (from + count) ≤ length ((H.view host.old).reads layout.now.dev) }

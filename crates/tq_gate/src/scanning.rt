@@ -59,11 +59,7 @@ fn payload_at(log: &[u8], at: usize) -> Option<&[u8]>
 }
 
 // Adds a copy of a payload.
-fn push_copy(
-    alloc: Global,
-    payloads: &mut Vec<Vec<u8>>,
-    payload: &[u8],
-) -> Result<(), AllocError>
+fn push_copy(alloc: Global, payloads: &mut Vec<Vec<u8>>, payload: &[u8]) -> Result<(), AllocError>
     ensures { OnOk result (map (λ v. v.items) payloads.new.items ≡ map (λ v. v.items) payloads.old.items ++ payload.now ∷ []) }
 {
     let copy = payload.to_vec(alloc)?;
