@@ -9,6 +9,8 @@ mod log;
 mod pieces;
 mod reading;
 mod scanning;
+#[cfg(test)]
+mod tests;
 
 pub use fault::GateError;
 pub use layout::{Areas, Layout};
