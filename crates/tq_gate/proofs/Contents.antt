@@ -74,7 +74,7 @@ module _ (layout : Layout) where
   open_whole area end k image ends whole = record { reads = of_whole area k image whole; area_is = whole.area_is; end_is = ends }
 
   -- the chosen area stays where the selector does
-  chosen_same : (areas : Areas) (a b : List ℕ) → ((i : ℕ) → IsSelector areas i → get_or b (address layout i) 0 ≡ get_or a (address layout i) 0) → chosen layout areas b ≡ chosen layout areas a
+  pub chosen_same : (areas : Areas) (a b : List ℕ) → ((i : ℕ) → IsSelector areas i → get_or b (address layout i) 0 ≡ get_or a (address layout i) 0) → chosen layout areas b ≡ chosen layout areas a
   chosen_same One a b same = refl
   chosen_same (Two selector) a b same = ap (area_by layout) (same selector refl)
 

@@ -4,3 +4,4 @@ pub mod Contents
 pub mod Staging
 pub mod Quieting
 pub mod Opening
+pub mod Elsewhere

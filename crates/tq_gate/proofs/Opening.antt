@@ -1,12 +1,14 @@
 -- What was read of a log is its content.
 use Rattle.std.proofs.Common.{◌≡◌, ◌≢◌, ◌≤◌, ℕ, ◌+◌, List, length, get_or, map, Result, Ok, Err, sym, ap, subst, ◌∙◌}
 use Rattle.std.specs.Prelude.{IfOk, IfErr}
+use Rattle.tq_host.specs.View.{View, IsSettled}
 use Rattle.tq_gate.specs.declared.layout.Layout.{Layout}
+use Rattle.tq_gate.specs.declared.log.GateLog.{GateLog}
 use Rattle.tq_gate.specs.declared.fault.GateError.{GateError}
 use Rattle.tq_gate.specs.declared.loading.Loaded.{Loaded}
 use Rattle.tq_gate.specs.Layout.{bytes_from, base_length, log_length, layout_end, IsPlaced}
-use Rattle.tq_gate.specs.Reading.{area_of, base_in, log_in, end_of, AreRecords}
-use Rattle.tq_gate.specs.Log.{IsOpen, IsLog}
+use Rattle.tq_gate.specs.Reading.{Content, area_of, base_in, log_in, end_of, AreRecords}
+use Rattle.tq_gate.specs.Log.{IsOpen, IsLog, AreLog}
 use Rattle.tq_gate.specs.Loading.{IsRefused, IsRefusedLog}
 use Rattle.tq_gate.specs.Loaded.{content_of}
 use Rattle.tq_gate.proofs.Contents.{read_open, read_refused}
@@ -43,3 +45,7 @@ module _ (layout : Layout) (area : ℕ) (placed : IsPlaced layout area) (base lo
   refused_is (Ok l) refused = tt
   refused_is (Err e) refused = λ t.
       let read = is t in read_refused layout area placed e log image read.long read.area_is read.log_is refused
+
+-- with nothing pending each image has what is read
+pub settled_log : (log : GateLog) (k : Content) (v : View) → IsSettled log.layout.dev v → IsLog log k (v.reads log.layout.dev) → AreLog log k v
+settled_log log k v settled is = λ image may. subst (IsLog log k) (sym (settled image may)) is

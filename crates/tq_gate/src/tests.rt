@@ -148,7 +148,11 @@ fn a_gate_at_the_end_is_damage(rt: HostRuntime) -> Result<(), Fail> {
         image[2052] = ((place - 5) % 256) as u8;
         image[2048 + place] = 0x4F;
         let at = 2048 + place as u64;
-        let expected = if place == 1018 { Ok(2) } else { Err(GateError::Damaged { at }) };
+        let expected = if place == 1018 {
+            Ok(2)
+        } else {
+            Err(GateError::Damaged { at })
+        };
         assert_eq!(rt; count_payloads(alloc, &ONE, &image), expected);
     }
     Ok(())
