@@ -1,23 +1,21 @@
 -- The content of an image, by what stands in it.
-use Rattle.std.proofs.Common.{◌≡◌, ◌≢◌, ◌⊎◌, inl, inr, ⊎_elim, ◌<◌, ◌≤◌, ℕ, ◌+◌, List, [], ◌∷◌, ◌++◌, length, get_or, Option, None, Some, refl, sym, ◌∙◌, ap, subst, arith}
-use Rattle.std.specs.Prelude.{◌%◌, ◌==◌, nat_le, if◌then◌else◌}
+use Rattle.std.proofs.Common.{◌≡◌, ◌≢◌, ◌⊎◌, inl, inr, ◌<◌, ◌≤◌, ℕ, ◌+◌, List, length, get_or, Option, None, Some, refl, sym, ◌∙◌, ap, subst, arith}
+use Rattle.std.specs.Prelude.{nat_le, if◌then◌else◌}
 use Rattle.std.specs.Option.{option_map}
 use Rattle.std.proofs.lemmas.Bool.Decides.{nat_tests}
-use Rattle.std.proofs.lemmas.Bool.{cases_eq}
 use Rattle.std.proofs.lemmas.Option.{none-some, same_Some}
-use Rattle.tq_host.specs.Calls.{IsSameBut}
 use Rattle.tq_host.proofs.Bytes.{before_or_after}
 use Rattle.tq_gate.specs.declared.layout.Layout.{Layout}
 use Rattle.tq_gate.specs.declared.layout.Areas.{Areas}
 use Rattle.tq_gate.specs.declared.layout.Areas.TheVariants.{One, Two}
-use Rattle.tq_gate.specs.Layout.{address, first_area, areas_end, base_length, log_length, layout_end, log_address, area_by, IsSelector, IsPlaced}
+use Rattle.tq_gate.specs.Layout.{address, base_length, log_length, layout_end, log_address, area_by, IsSelector, IsPlaced}
 use Rattle.tq_gate.specs.Reading.{Content, content, chosen, area_of, base_in, log_in, log_reading, end_of, AreRecords, IsDamagedAt}
 use Rattle.tq_gate.specs.Log.{IsOpen, IsSameButIn}
 use Rattle.tq_gate.specs.declared.fault.GateError.{GateError}
 use Rattle.tq_gate.specs.declared.fault.GateError.TheVariants.{Damaged, Device, NoMemory}
 use Rattle.tq_gate.specs.Loading.{IsDamaged, IsRefused, IsRefusedLog}
 use Rattle.tq_gate.proofs.Stretches.{length-bytes_from, get_or-bytes_from, bytes_from-same}
-use Rattle.tq_gate.proofs.Readings.{Read, log_read, log_reading_is, damaged_none, records_within, records_same}
+use Rattle.tq_gate.proofs.Readings.{log_read, log_reading_is, damaged_none, records_within, records_same}
 
 -- what stands in an image that has this content
 pub record Whole (layout : Layout) (area : ℕ) (k : Content) (image : List ℕ) : Type 0 where

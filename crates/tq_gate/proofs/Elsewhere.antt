@@ -1,5 +1,5 @@
 -- Contents of images that differ beside the log, and of a log that was never written.
-use Rattle.std.proofs.Common.{◌≡◌, ◌≢◌, ◌<◌, ◌≤◌, ℕ, ◌+◌, List, [], length, get_or, Some, refl, sym, ◌∙◌, ap, subst, arith}
+use Rattle.std.proofs.Common.{◌≡◌, ◌≢◌, ◌<◌, ◌≤◌, ℕ, ◌+◌, List, [], length, get_or, Some, refl, sym, ◌∙◌, subst, arith}
 use Rattle.std.specs.Prelude.{◌%◌, ◌==◌, if◌then◌else◌}
 use Rattle.std.proofs.lemmas.Bool.Decides.{nat_tests}
 use Rattle.tq_gate.specs.declared.layout.Layout.{Layout}
@@ -8,7 +8,7 @@ use Rattle.tq_gate.specs.declared.layout.Areas.TheVariants.{One, Two}
 use Rattle.tq_gate.specs.Layout.{address, first_area, area_length, areas_end, total_length, base_length, log_length, layout_end, IsSelector}
 use Rattle.tq_gate.specs.Reading.{Content, content, chosen, area_of, base_in, log_in, end_of, AreRecords}
 use Rattle.tq_gate.proofs.Stretches.{bytes_from-same}
-use Rattle.tq_gate.proofs.Contents.{Whole, whole_of, of_whole, chosen_same}
+use Rattle.tq_gate.proofs.Contents.{whole_of, of_whole, chosen_same}
 
 by_bounds : (n first long : ℕ) → (first ≤ (if n % 2 == 0 then first else first + long)) × ((if n % 2 == 0 then first else first + long) + long ≤ first + (long + long))
 by_bounds n first long = grind (arith, nat_tests)

@@ -1,5 +1,5 @@
 -- Calls that write nothing.
-use Rattle.std.proofs.Common.{◌≡◌, inl, inr, ⊎_elim, ℕ, List, Result, refl, sym, subst, ◌∙◌}
+use Rattle.std.proofs.Common.{inl, inr, ⊎_elim, ℕ, List, Result, refl, sym, subst, ◌∙◌}
 use Rattle.tq_host.specs.declared.host.Failed.{Failed}
 use Rattle.tq_host.specs.View.{View}
 use Rattle.tq_host.specs.Calls.{IsDeviceCall, IsStill}

@@ -1,24 +1,24 @@
 -- What writes behind a log and on its closed gate leave.
-use Rattle.std.proofs.Common.{◌≡◌, ◌≢◌, ◌⊎◌, inl, inr, ⊎_elim, ◌<◌, ◌≤◌, ℕ, ◌+◌, ◌-◌, ◌^◌, List, [], ◌∷◌, ◌++◌, length, get_or, Result, Some, refl, sym, ◌∙◌, ap, subst, arith}
+use Rattle.std.proofs.Common.{◌≡◌, ◌⊎◌, inl, inr, ⊎_elim, ◌<◌, ◌≤◌, ℕ, ◌+◌, ◌^◌, List, [], ◌∷◌, ◌++◌, length, get_or, Result, Some, refl, sym, ◌∙◌, ap, subst, arith}
 use Rattle.std.proofs.lemmas.Bool.{cases_eq}
 use Rattle.tq_host.specs.declared.host.Failed.{Failed}
 use Rattle.tq_host.specs.View.{Told, View, IsLawful, IsSettled}
-use Rattle.tq_host.specs.Calls.{StandsAt, IsSameBut, IsTorn, IsWritten, IsDeviceCall, IsStill, Changes}
+use Rattle.tq_host.specs.Calls.{StandsAt, IsTorn, IsWritten, IsDeviceCall, IsStill, Changes}
 use Rattle.tq_host.specs.Within.{Within}
 use Rattle.tq_host.proofs.Steps.{IsSteps}
 use Rattle.tq_host.proofs.Within.{starts, still, changes, weaker, in_a_row}
 use Rattle.tq_host.proofs.Bytes.{torn_within, stands_still, same_but_steps}
 use Rattle.tq_field.specs.Digits.{number_of, digits}
-use Rattle.tq_field.specs.Places.{run_at, number_at}
+use Rattle.tq_field.specs.Places.{run_at}
 use Rattle.tq_field.proofs.Numbers.{length-digits, number_of-digits}
 use Rattle.tq_gate.specs.declared.layout.Layout.{Layout}
 use Rattle.tq_gate.specs.declared.log.GateLog.{GateLog}
 use Rattle.tq_gate.specs.Layout.{log_length, layout_end, log_address, IsPlaced}
-use Rattle.tq_gate.specs.Reading.{Content, content, log_in, end_of, IsRecord, AreRecords}
+use Rattle.tq_gate.specs.Reading.{Content, content, log_in, end_of, IsRecord}
 use Rattle.tq_gate.specs.Log.{IsOpen, IsLog, AreLog, added, IsSameButIn, IsSameButLog, IsStagedIn, IsStaged, AreStagedOver, IsOldOrNew}
 use Rattle.tq_gate.proofs.Stretches.{run_at-is}
 use Rattle.tq_gate.proofs.Readings.{end_of-push, records_push}
-use Rattle.tq_gate.proofs.Contents.{Whole, whole_open, open_whole, of_whole, whole_but, log_byte, log_long, log_within, log_same, records_kept}
+use Rattle.tq_gate.proofs.Contents.{whole_open, open_whole, of_whole, whole_but, log_byte, log_long, log_within, log_same, records_kept}
 
 pub torn_of : (w : ℕ) (bytes a b : List ℕ) → IsWritten w bytes a b → w + length bytes ≤ length a → IsTorn w (length bytes) a b
 torn_of w bytes a b written within = record { outside = written.outside; no_shorter = omega (arith, written.size); no_longer = omega (arith, written.size) }

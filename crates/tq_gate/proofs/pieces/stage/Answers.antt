@@ -1,4 +1,4 @@
-use Rattle.std.proofs.Common.{◌≡◌, ◌+◌, ◌≤◌, ℕ, List, length, arith, sym, subst, ap, ◌∙◌}
+use Rattle.std.proofs.Common.{ℕ, List, length, arith, sym, subst, ap, ◌∙◌}
 use Rattle.tq_field.proofs.Numbers.{length-digits}
 use Rattle.tq_gate.specs.Log.{IsStagedIn}
 use Rattle.tq_gate.proofs.Staging.{keeps_start, keeps_write, keeps_still, staged}
