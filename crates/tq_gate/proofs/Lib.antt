@@ -1,0 +1,7 @@
+pub mod Stretches
+pub mod Readings
+pub mod Contents
+pub mod Staging
+pub mod Quieting
+pub mod Opening
+pub mod Elsewhere

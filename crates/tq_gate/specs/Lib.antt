@@ -1,0 +1,6 @@
+pub mod Layout
+pub mod Reading
+pub mod Log
+pub mod Loading
+pub mod Scanning
+pub mod Loaded

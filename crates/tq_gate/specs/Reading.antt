@@ -1,0 +1,75 @@
+-- What a gated log reads as.
+use Rattle.std.specs.Prelude.{◌≡◌, ◌<◌, ◌≤◌, ℕ, zero, suc, ◌+◌, ◌==◌, nat_le, if◌then◌else◌, Option, None, Some, List, [], ◌∷◌, length, get_or}
+use Rattle.std.specs.Option.{option_map}
+use Rattle.tq_field.specs.Places.{run_at, number_at}
+use Rattle.tq_gate.specs.declared.layout.Layout.{Layout}
+use Rattle.tq_gate.specs.declared.layout.Areas.{Areas}
+use Rattle.tq_gate.specs.declared.layout.Areas.TheVariants.{One, Two}
+use Rattle.tq_gate.specs.Layout.{address, bytes_from, first_area, base_length, log_length, area_by, layout_end}
+
+-- The payloads from place p of a log on. An open gate, a length in 4 bytes and so many bytes are a payload, and a further byte has
+-- to follow; else there is no reading. The log ends where no open gate stands. At most so many payloads are read.
+unfoldable pub reading_from : ℕ → ℕ → List ℕ → Option (List (List ℕ))
+reading_from zero p log = Some []
+reading_from (suc most) p log =
+    if get_or log p 0 == 79
+    then (if nat_le (p + 6 + number_at (p + 1) 4 log) (length log)
+    then option_map (λ payloads. run_at (p + 5) (number_at (p + 1) 4 log) log ∷ payloads) (reading_from most (p + (5 + number_at (p + 1) 4 log)) log)
+    else None)
+    else Some []
+
+-- the payloads of a log
+abbrev pub log_reading : List ℕ → Option (List (List ℕ))
+log_reading log = reading_from (length log) 0 log
+
+-- where payloads end that stand from place 0 on: each has an open gate and its length before it
+abbrev pub end_of : List (List ℕ) → ℕ
+end_of [] = 0
+end_of (payload ∷ payloads) = 5 + length payload + end_of payloads
+
+-- a payload stands behind an open gate at place p of a log, and a further byte behind it
+pub record IsRecord (log : List ℕ) (p : ℕ) (payload : List ℕ) : Type 0 where
+  pub gate : get_or log p 0 ≡ 79
+  pub number : number_at (p + 1) 4 log ≡ length payload
+  pub run : run_at (p + 5) (length payload) log ≡ payload
+  pub fits : p + 6 + length payload ≤ length log
+
+-- these payloads stand from place p on
+abbrev pub AreRecords : List ℕ → ℕ → List (List ℕ) → Type 0
+AreRecords log p [] = Unit {0}
+AreRecords log p (payload ∷ payloads) = IsRecord log p payload × AreRecords log (p + (5 + length payload)) payloads
+
+-- Behind some payloads stands an open gate at place p, and the log ends before its payload and the gate behind that do.
+pub record IsDamagedAt (log : List ℕ) (p : ℕ) : Type 0 where
+  pub before : List (List ℕ)
+  pub records : AreRecords log 0 before
+  pub ends : p ≡ end_of before
+  pub gate : get_or log p 0 ≡ 79
+  pub past : length log < p + 6 + number_at (p + 1) 4 log
+
+-- a base and the payloads of its log
+pub record Content : Type 0 where
+  pub base : List ℕ
+  pub payloads : List (List ℕ)
+
+-- the logical byte at which the chosen area begins
+abbrev pub chosen : Layout → Areas → List ℕ → ℕ
+chosen layout One image = first_area layout
+chosen layout (Two selector) image = area_by layout (get_or image (address layout selector) 0)
+
+abbrev pub area_of : Layout → List ℕ → ℕ
+area_of layout image = chosen layout layout.areas image
+
+-- the base of the area that begins at this logical byte, and its log
+abbrev pub base_in : Layout → ℕ → List ℕ → List ℕ
+base_in layout area image = bytes_from layout area (base_length layout) image
+
+abbrev pub log_in : Layout → ℕ → List ℕ → List ℕ
+log_in layout area image = bytes_from layout (area + base_length layout) (log_length layout) image
+
+-- The content that a device has there; none where it is too short, or where its log has no reading.
+abbrev pub content : Layout → List ℕ → Option Content
+content layout image =
+    if nat_le (layout_end layout) (length image)
+    then option_map (λ payloads. record { base = base_in layout (area_of layout image) image; payloads = payloads }) (log_reading (log_in layout (area_of layout image) image))
+    else None

@@ -1,0 +1,87 @@
+ghost use Rattle.std.specs.Prelude.{◌≡◌, ◌≢◌, ◌≤◌, length, slice_index, map, IfOk, IfErr, IsErrOf};
+ghost use Rattle.tq_host.specs.Calls.{HasCauseOf};
+ghost use Rattle.tq_gate.specs.declared.fault.GateError.TheVariants as fault;
+ghost use Rattle.tq_gate.specs.Layout.{log_length, layout_end, IsLaidOut, IsPlaced};
+ghost use Rattle.tq_gate.specs.Reading.{end_of, AreRecords};
+ghost use Rattle.tq_gate.specs.Log.{IsLog, layout_of};
+ghost use Rattle.tq_gate.specs.Loading.{IsQuiet, IsRefused, IsRefusedLog};
+ghost use Rattle.tq_gate.specs.Loaded.{content_of};
+
+use crate::layout::Layout;
+use crate::reading::{choose_area, read_bytes};
+use crate::scanning::{Scan, ScanError, scan_log};
+use crate::{GateError, GateLog};
+use std::alloc::Global;
+use tq_host::Host;
+
+/// A log and its content.
+#[derive(Debug, Drop)]
+pub struct Loaded {
+    pub log: GateLog,
+    /// The bytes of the base.
+    pub base: Vec<u8>,
+    /// The payloads, in the order in which they were added.
+    pub payloads: Vec<Vec<u8>>,
+}
+
+// The log with these bytes, open.
+fn open_log(
+    alloc: Global,
+    layout: &Layout,
+    area: u64,
+    base: Vec<u8>,
+    log: &[u8],
+) -> Result<Loaded, GateError>
+    requires placed { IsPlaced layout.now area }
+    requires long { length log.now ≡ log_length layout.now }
+    ensures layout { IfOk result (λ loaded. loaded.log.layout ≡ layout.now) }
+    ensures area { IfOk result (λ loaded. loaded.log.area ≡ area) }
+    ensures base { IfOk result (λ loaded. loaded.base.items ≡ base.items) }
+    ensures records { IfOk result (λ loaded. AreRecords log.now 0 (map (λ v. v.items) loaded.payloads.items)) }
+    ensures end { IfOk result (λ loaded. loaded.log.end ≡ end_of (map (λ v. v.items) loaded.payloads.items)) }
+    ensures shut { IfOk result (λ loaded. slice_index log.now loaded.log.end ≢ 79) }
+    ensures refused { IfErr result (IsRefusedLog layout.now area log.now) }
+{
+    match scan_log(alloc, log) {
+        Ok(Scan { payloads, end }) => {
+            let log = GateLog {
+                layout: *layout,
+                area,
+                end: end as u64,
+            };
+            Ok(Loaded {
+                log,
+                base,
+                payloads,
+            })
+        }
+        Err(ScanError::NoMemory) => Err(GateError::NoMemory),
+        Err(ScanError::Damaged { at }) => {
+            let at = layout.address(area + layout.base_length() + at as u64);
+            Err(GateError::Damaged { at })
+        }
+    }
+}
+
+impl GateLog {
+    /// Opens the log that lies there, and reads its content. Nothing is written.
+    ///
+    /// `Damaged` comes exactly where an open gate stands whose payload, with the gate behind it,
+    /// does not end within the log, and names the byte of that gate; what stands behind a closed
+    /// gate changes nothing.
+    pub fn load<H: Host>(alloc: Global, host: &mut H, layout: &Layout) -> Result<Loaded, GateError>
+        requires laid_out { IsLaidOut layout.now }
+        requires reach { H.tells.reads → layout_end layout.now ≤ length ((H.view host.old).reads layout.now.dev) }
+        ensures loaded { IfOk result (λ loaded. H.tells.reads → IsLog loaded.log (content_of loaded) ((H.view host.old).reads layout.now.dev)) }
+        ensures layout { IfOk result (λ loaded. layout_of loaded.log ≡ layout.now) }
+        ensures refused { IfErr result (λ e. H.tells.reads → IsRefused layout.now ((H.view host.old).reads layout.now.dev) e) }
+        ensures quiet { IsQuiet layout.now.dev (H.view host.old) (H.view host.new) }
+        ensures cause { HasCauseOf (IsErrOf result fault.Device) (H.view host.old).faults (H.view host.new).faults }
+    {
+        let area = choose_area(host, layout)?;
+        let base_length = layout.base_length();
+        let base = read_bytes(alloc, host, layout, area, base_length)?;
+        let log = read_bytes(alloc, host, layout, area + base_length, layout.log_length())?;
+        open_log(alloc, layout, area, base, &log)
+    }
+}
