@@ -64,3 +64,14 @@ status_for (Err Input) = status.ReadFault
 status_for (Err Output) = status.WriteFault
 status_for (Err Device) = status.DeviceFault
 status_for (Err TooMuchInput) = status.TooMuchInput
+
+-- the number with which the program ends
+abbrev pub status_number : Status → ℕ
+status_number status.Done = 0
+status_number status.Usage = 2
+status_number (status.Damaged d) = 3
+status_number status.NoMemory = 4
+status_number status.ReadFault = 5
+status_number status.WriteFault = 6
+status_number status.DeviceFault = 7
+status_number status.TooMuchInput = 8

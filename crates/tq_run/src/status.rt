@@ -1,3 +1,5 @@
+ghost use Rattle.std.specs.Prelude.{◌≡◌};
+
 /// How a run ended.
 #[derive(Clone, Copy, Debug, PartialEq, Eq)]
 pub enum Status {
@@ -31,8 +33,12 @@ pub enum Stop {
 }
 
 impl Status {
-    // The number with which the program ends.
-    pub fn number(self) -> u8 {
+    ghost use Rattle.tq_run.specs.Ending.{status_number};
+
+    /// The number with which the program ends.
+    pub fn number(self) -> u8
+        ensures { result ≡ status_number self }
+    {
         match self {
             Status::Done => 0,
             Status::Usage => 2,

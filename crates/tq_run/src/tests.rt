@@ -276,16 +276,17 @@ fn each_call_that_fails_has_its_status(rt: HostRuntime) -> Result<(), Fail> {
         assert!(rt; call > 3 || host.output().is_empty());
     }
     let image = made(alloc)?;
-    // attach, sync, length, three reads, two writes, sync, the selector, sync, line 0, the script's end
+    // attach, sync, length, three reads, the new base, sync, the selector, sync, line 0, the script's end
     for (call, status) in [
         (1u64, Status::DeviceFault),
         (3, Status::DeviceFault),
+        (6, Status::DeviceFault),
         (7, Status::DeviceFault),
+        (8, Status::DeviceFault),
         (9, Status::DeviceFault),
-        (10, Status::DeviceFault),
-        (11, Status::WriteFault),
-        (12, Status::ReadFault),
-        (13, Status::Done),
+        (10, Status::WriteFault),
+        (11, Status::ReadFault),
+        (12, Status::Done),
     ] {
         let mut host = outside(alloc, image.as_slice(), b"".as_slice(), 64)?;
         host.fail_at(call)?;
