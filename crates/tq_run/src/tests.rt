@@ -260,11 +260,48 @@ fn status_at(call: u64) -> Status {
     }
 }
 
+// Whether a run in which one of these calls fails always ends with the status of its cause.
+fn ends_as_caused(alloc: Global, from: u64, to: u64) -> Result<bool, AllocError> {
+    let words = run_words(alloc)?;
+    for call in from..to {
+        let mut host = outside(alloc, b"".as_slice(), b"crdl 0 64\nlidl 0\n".as_slice(), 64)?;
+        host.fail_at(call)?;
+        if run(alloc, &words, &mut host) != status_at(call) {
+            return Ok(false);
+        }
+    }
+    Ok(true)
+}
+
+#[test]
+fn the_first_writes_fail(rt: HostRuntime) -> Result<(), Fail> {
+    assert!(rt; ends_as_caused(rt.alloc(), 12, 42)?);
+    Ok(())
+}
+
+#[test]
+fn the_middle_writes_fail(rt: HostRuntime) -> Result<(), Fail> {
+    assert!(rt; ends_as_caused(rt.alloc(), 42, 72)?);
+    Ok(())
+}
+
+#[test]
+fn the_later_writes_fail(rt: HostRuntime) -> Result<(), Fail> {
+    assert!(rt; ends_as_caused(rt.alloc(), 72, 102)?);
+    Ok(())
+}
+
+#[test]
+fn the_last_writes_fail(rt: HostRuntime) -> Result<(), Fail> {
+    assert!(rt; ends_as_caused(rt.alloc(), 102, 129)?);
+    Ok(())
+}
+
 #[test]
 fn each_call_that_fails_has_its_status(rt: HostRuntime) -> Result<(), Fail> {
     let alloc = rt.alloc();
     let words = run_words(alloc)?;
-    // the writes 12 to 129 are turns of one loop
+    // the writes 12 to 128 have tests of their own
     for call in (0..12u64).chain(129..143) {
         let mut host = outside(alloc, b"".as_slice(), b"crdl 0 64\nlidl 0\n".as_slice(), 64)?;
         host.fail_at(call)?;
@@ -278,8 +315,12 @@ fn each_call_that_fails_has_its_status(rt: HostRuntime) -> Result<(), Fail> {
     let image = made(alloc)?;
     // attach, sync, length, three reads, the new base, sync, the selector, sync, line 0, the script's end
     for (call, status) in [
-        (1u64, Status::DeviceFault),
+        (0u64, Status::DeviceFault),
+        (1, Status::DeviceFault),
+        (2, Status::DeviceFault),
         (3, Status::DeviceFault),
+        (4, Status::DeviceFault),
+        (5, Status::DeviceFault),
         (6, Status::DeviceFault),
         (7, Status::DeviceFault),
         (8, Status::DeviceFault),
