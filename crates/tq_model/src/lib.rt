@@ -7,6 +7,7 @@ mod calls;
 mod grammar;
 mod machine;
 mod request;
+mod room;
 mod space;
 #[cfg(test)]
 mod tests;
@@ -19,4 +20,5 @@ pub use calls::{
 pub use grammar::{Key, Kind, Value, Verb};
 pub use machine::Machine;
 pub use request::{Creation, DeviceRequest, Request};
+pub use room::{message_pages, overhead_pages, pages_for};
 pub use space::{Change, QueueDef, Shape, SpaceMove};
