@@ -9,7 +9,8 @@ use Rattle.tq_gate.specs.declared.layout.Layout.{Layout}
 use Rattle.tq_gate.specs.declared.layout.Areas.{Areas}
 use Rattle.tq_gate.specs.declared.layout.Areas.TheVariants.{One, Two}
 use Rattle.tq_gate.specs.Layout.{address, base_length, log_length, layout_end, log_address, area_by, IsSelector, IsPlaced}
-use Rattle.tq_gate.specs.Reading.{Content, content, chosen, area_of, base_in, log_in, log_reading, end_of, AreRecords, IsDamagedAt}
+use Rattle.tq_gate.specs.Reading.{Content, content, chosen, area_of, base_in, log_in, AreRecords, IsDamagedAt}
+use Rattle.tq_field.specs.GatedLog.{log_reading, end_of}
 use Rattle.tq_gate.specs.Log.{IsOpen, IsSameButIn}
 use Rattle.tq_gate.specs.declared.fault.GateError.{GateError}
 use Rattle.tq_gate.specs.declared.fault.GateError.TheVariants.{Damaged, Device, NoMemory}

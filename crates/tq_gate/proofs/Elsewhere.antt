@@ -6,7 +6,8 @@ use Rattle.tq_gate.specs.declared.layout.Layout.{Layout}
 use Rattle.tq_gate.specs.declared.layout.Areas.{Areas}
 use Rattle.tq_gate.specs.declared.layout.Areas.TheVariants.{One, Two}
 use Rattle.tq_gate.specs.Layout.{address, first_area, area_length, areas_end, total_length, base_length, log_length, layout_end, IsSelector}
-use Rattle.tq_gate.specs.Reading.{Content, content, chosen, area_of, base_in, log_in, end_of, AreRecords}
+use Rattle.tq_gate.specs.Reading.{Content, content, chosen, area_of, base_in, log_in, AreRecords}
+use Rattle.tq_field.specs.GatedLog.{end_of}
 use Rattle.tq_gate.proofs.Stretches.{bytes_from-same}
 use Rattle.tq_gate.proofs.Contents.{whole_of, of_whole, chosen_same}
 

@@ -7,7 +7,8 @@ use Rattle.tq_gate.specs.declared.log.GateLog.{GateLog}
 use Rattle.tq_gate.specs.declared.fault.GateError.{GateError}
 use Rattle.tq_gate.specs.declared.loading.Loaded.{Loaded}
 use Rattle.tq_gate.specs.Layout.{bytes_from, base_length, log_length, layout_end, IsPlaced}
-use Rattle.tq_gate.specs.Reading.{Content, area_of, base_in, log_in, end_of, AreRecords}
+use Rattle.tq_gate.specs.Reading.{Content, area_of, base_in, log_in, AreRecords}
+use Rattle.tq_field.specs.GatedLog.{end_of}
 use Rattle.tq_gate.specs.Log.{IsOpen, IsLog, AreLog}
 use Rattle.tq_gate.specs.Loading.{IsRefused, IsRefusedLog}
 use Rattle.tq_gate.specs.Loaded.{content_of}

@@ -10,7 +10,8 @@ use Rattle.std.proofs.lemmas.List.{get_or_past}
 use Rattle.std.proofs.lemmas.Option.{none-some, same_Some}
 use Rattle.tq_field.specs.Places.{run_at, number_at}
 use Rattle.tq_field.specs.Digits.{number_of}
-use Rattle.tq_gate.specs.Reading.{reading_from, log_reading, end_of, IsRecord, AreRecords, IsDamagedAt}
+use Rattle.tq_gate.specs.Reading.{IsRecord, AreRecords, IsDamagedAt}
+use Rattle.tq_field.specs.GatedLog.{reading_from, log_reading, end_of}
 use Rattle.tq_gate.proofs.Stretches.{run_at-same}
 
 -- one step of the reading

@@ -14,7 +14,8 @@ use Rattle.tq_field.proofs.Numbers.{length-digits, number_of-digits}
 use Rattle.tq_gate.specs.declared.layout.Layout.{Layout}
 use Rattle.tq_gate.specs.declared.log.GateLog.{GateLog}
 use Rattle.tq_gate.specs.Layout.{log_length, layout_end, log_address, IsPlaced}
-use Rattle.tq_gate.specs.Reading.{Content, content, log_in, end_of, IsRecord}
+use Rattle.tq_gate.specs.Reading.{Content, content, log_in, IsRecord}
+use Rattle.tq_field.specs.GatedLog.{end_of}
 use Rattle.tq_gate.specs.Log.{IsOpen, IsLog, AreLog, added, IsSameButIn, IsSameButLog, IsStagedIn, IsStaged, AreStagedOver, IsOldOrNew}
 use Rattle.tq_gate.proofs.Stretches.{run_at-is}
 use Rattle.tq_gate.proofs.Readings.{end_of-push, records_push}

@@ -6,7 +6,8 @@ use Rattle.tq_field.specs.Digits.{digits}
 use Rattle.tq_gate.specs.declared.log.GateLog.{GateLog}
 use Rattle.tq_gate.specs.declared.layout.Layout.{Layout}
 use Rattle.tq_gate.specs.Layout.{log_length, log_address}
-use Rattle.tq_gate.specs.Reading.{Content, content, area_of, end_of}
+use Rattle.tq_gate.specs.Reading.{Content, content, area_of}
+use Rattle.tq_field.specs.GatedLog.{end_of}
 
 -- An image has this content, in the area that begins at that logical byte; its payloads end there.
 pub record IsOpen (layout : Layout) (area end : ℕ) (k : Content) (image : List ℕ) : Type 0 where

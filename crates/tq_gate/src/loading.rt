@@ -2,7 +2,8 @@ ghost use Rattle.std.specs.Prelude.{◌≡◌, ◌≢◌, ◌≤◌, length, sli
 ghost use Rattle.tq_host.specs.Calls.{HasCauseOf};
 ghost use Rattle.tq_gate.specs.declared.fault.GateError.TheVariants as fault;
 ghost use Rattle.tq_gate.specs.Layout.{log_length, layout_end, IsLaidOut, IsPlaced};
-ghost use Rattle.tq_gate.specs.Reading.{end_of, AreRecords};
+ghost use Rattle.tq_gate.specs.Reading.{AreRecords};
+ghost use Rattle.tq_field.specs.GatedLog.{end_of};
 ghost use Rattle.tq_gate.specs.Log.{IsLog, layout_of};
 ghost use Rattle.tq_gate.specs.Loading.{IsQuiet, IsRefused, IsRefusedLog};
 ghost use Rattle.tq_gate.specs.Loaded.{content_of};

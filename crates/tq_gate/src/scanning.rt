@@ -1,6 +1,7 @@
 ghost use Rattle.std.specs.Prelude.{◌≡◌, ◌≢◌, ◌+◌, ◌<◌, ◌≤◌, ◌↔◌, ℕ, length, slice_index, map, IsTrue, IfOk, IfErr, IfSome, IfNone, OnOk, [], ◌∷◌, ◌++◌};
 ghost use Rattle.tq_field.specs.Places.{number_at};
-ghost use Rattle.tq_gate.specs.Reading.{end_of, IsRecord, AreRecords};
+ghost use Rattle.tq_gate.specs.Reading.{IsRecord, AreRecords};
+ghost use Rattle.tq_field.specs.GatedLog.{end_of};
 ghost use Rattle.tq_gate.specs.Scanning.{IsScanFault};
 
 use crate::pieces::OPEN_GATE;

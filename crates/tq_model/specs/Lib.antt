@@ -10,3 +10,5 @@ pub mod Room
 pub mod Moves
 pub mod EnqueueStep
 pub mod DequeueStep
+pub mod Names
+pub mod SpaceForm

@@ -6,6 +6,8 @@ mod answer;
 mod calls;
 mod grammar;
 mod machine;
+mod names;
+mod record;
 mod request;
 mod room;
 mod space;
@@ -19,6 +21,8 @@ pub use calls::{
 };
 pub use grammar::{Key, Kind, Value, Verb};
 pub use machine::Machine;
+pub use names::name_in;
+pub use record::SpaceRecord;
 pub use request::{Creation, DeviceRequest, Request};
 pub use room::{message_pages, overhead_pages, pages_for};
 pub use space::{Change, QueueDef, Shape, SpaceMove};

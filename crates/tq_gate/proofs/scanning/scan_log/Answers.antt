@@ -1,5 +1,6 @@
 use Rattle.std.proofs.Common.{◌≡◌, ◌+◌, length, map, [], ◌∷◌, ◌++◌, sym, ap, subst, ◌∙◌, arith}
-use Rattle.tq_gate.specs.Reading.{end_of, AreRecords, IsRecord}
+use Rattle.tq_gate.specs.Reading.{AreRecords, IsRecord}
+use Rattle.tq_field.specs.GatedLog.{end_of}
 use Rattle.tq_gate.proofs.Readings.{records_push, end_of-push}
 use Rattle.tq_gate.proofs.scanning.scan_log.Goals as goal
 

@@ -1,5 +1,6 @@
 use Rattle.std.proofs.Common.{◌≡◌, ◌≤◌, ◌-◌, length, map}
-use Rattle.tq_gate.specs.Reading.{end_of, AreRecords}
+use Rattle.tq_gate.specs.Reading.{AreRecords}
+use Rattle.tq_field.specs.GatedLog.{end_of}
 use Rattle.tq_gate.proofs.scanning.scan_log.Given as goal
 
 abbrev pub invariant-records : goal.invariant-records
