@@ -1,0 +1,59 @@
+-- The first page of a space.
+use Rattle.std.specs.Prelude.{◌≡◌, ℕ, ◌++◌, ◌==◌, ◌&&◌, nat_le, nat_lt, if◌then◌else◌, Bool, true, List, [], length, get_or, codes, Option, Some, None}
+use Rattle.std.specs.Str.{bytes_eq}
+use Rattle.tq_field.specs.Digits.{digits}
+use Rattle.tq_model.specs.declared.space.Shape.{Shape}
+use Rattle.tq_model.specs.Names.{is_name}
+use Rattle.tq_model.specs.Space.{overhead_pages}
+use Rattle.tq_model.specs.SpaceForm.{RawSpace, raw_space, shape_of}
+
+-- the bytes are these, and behind them zeros
+abbrev pub IsZeroPadded : List ℕ → List ℕ → Type 0
+IsZeroPadded start bytes = (i : ℕ) → get_or bytes i 0 ≡ get_or start i 0
+
+-- the mark and the numbers of a first page
+abbrev pub numbers_spelt : Shape → List ℕ
+numbers_spelt s = codes "TQSPROV1" ++ digits 2 1 ++ digits 2 s.queues ++ digits 2 s.messages ++ digits 2 s.transactions ++ digits 8 s.memory
+
+-- the first page of a space of that shape, read
+abbrev pub error_size : Option (List ℕ) → ℕ
+error_size None = 0
+error_size (Some name) = length name
+
+abbrev pub error_bytes : Option (List ℕ) → List ℕ
+error_bytes None = []
+error_bytes (Some name) = name
+
+abbrev pub raw_of : Shape → RawSpace
+raw_of s = record {
+  mark = codes "TQSPROV1";
+  version = 1;
+  queues = s.queues;
+  messages = s.messages;
+  transactions = s.transactions;
+  memory = s.memory;
+  error_size = error_size s.error;
+  error = error_bytes s.error;
+}
+
+-- the numbers of a creation are within their limits, and the pages are more than the overhead
+abbrev pub are_limits : Shape → Bool
+are_limits s =
+    (nat_le 1 s.queues && nat_le s.queues 256) && (nat_le 1 s.messages && nat_le s.messages 8192) && (nat_le 1 s.transactions && nat_le s.transactions 64)
+    && nat_le s.memory 16777216 && nat_lt (overhead_pages s) s.pages
+
+-- no error queue, or one whose name is a name
+abbrev pub is_error : Option (List ℕ) → Bool
+is_error None = true
+is_error (Some name) = is_name name
+
+abbrev pub is_creation : Shape → Bool
+is_creation s = are_limits s && is_error s.error
+
+-- this first page is that of a space with so many pages
+abbrev pub is_space_page : ℕ → RawSpace → Bool
+is_space_page pages r = bytes_eq r.mark (codes "TQSPROV1") && (r.version == 1) && is_creation (shape_of pages r)
+
+-- the shape of the space with so many pages whose first page these bytes begin with, if they do
+abbrev pub shape_in : ℕ → List ℕ → Option Shape
+shape_in pages page = if is_space_page pages (raw_space 0 page) then Some (shape_of pages (raw_space 0 page)) else None
