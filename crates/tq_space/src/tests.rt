@@ -283,72 +283,68 @@ fn delivered(alloc: Global, bytes: &[u8], number: u32) -> Result<Option<CallAnsw
     })))
 }
 
+/// An enqueue has this answer.
+fn enqueues(
+    rt: &impl Abort,
+    alloc: Global,
+    space: &mut Space,
+    name: Name,
+    message: (&[u8], u32),
+    answer: Option<CallAnswer>,
+) -> Result<(), AllocError>
+    requires { length message.0.now ≤ 65536 }
+{
+    let (bytes, number) = message;
+    let given = enqueue(alloc, space, name, bytes, number)?;
+    assert_eq!(rt; given, answer, "at {number}");
+    Ok(())
+}
+
+/// A dequeue takes this message.
+fn dequeues(
+    rt: &impl Abort,
+    alloc: Global,
+    space: &mut Space,
+    name: Name,
+    message: (&[u8], u32),
+) -> Result<(), AllocError> {
+    let (bytes, number) = message;
+    let given = dequeue(alloc, space, name)?;
+    assert_eq!(rt; given, delivered(alloc, bytes, number)?, "at {number}");
+    Ok(())
+}
+
+/// A dequeue is refused.
+fn refuses(
+    rt: &impl Abort,
+    alloc: Global,
+    space: &mut Space,
+    name: Name,
+    answer: CallAnswer,
+) -> Result<(), AllocError> {
+    let given = dequeue(alloc, space, name)?;
+    assert_eq!(rt; given, Some(answer));
+    Ok(())
+}
+
 #[test]
 fn one_page(rt: HostRuntime) -> Result<(), Fail> {
     let alloc = rt.alloc();
     let name = Name::new(b"Q")?;
     let order = Order::new(&[], Last::Fifo)?;
     let mut space = Space::new(alloc, &shape(42, 2), 1, 8);
-    assert_eq!(rt;
-        dequeue(alloc, &mut space, name)?,
-        Some(CallAnswer::BadQueue)
-    );
-    assert_eq!(rt;
-        enqueue(alloc, &mut space, name, b"a", 0)?,
-        Some(CallAnswer::BadQueue)
-    );
+    let bad = Some(CallAnswer::BadQueue);
+    refuses(&rt, alloc, &mut space, name, CallAnswer::BadQueue)?;
+    enqueues(&rt, alloc, &mut space, name, (b"a", 0), bad)?;
     with_queue(alloc, &mut space, name, order)?;
-    assert_eq!(rt;
-        dequeue(alloc, &mut space, name)?,
-        Some(CallAnswer::NoMessage)
-    );
-    assert_eq!(rt;
-        enqueue(alloc, &mut space, name, &[0; 761], 0)?,
-        no_space(Resource::Pages, 2, 0, 1)
-    );
-    assert_eq!(rt; enqueue(alloc, &mut space, name, &[7; 760], 1)?, granted(1));
-    assert_eq!(rt;
-        enqueue(alloc, &mut space, name, b"b", 2)?,
-        no_space(Resource::Pages, 1, 1, 1)
-    );
-    assert_eq!(rt;
-        dequeue(alloc, &mut space, name)?,
-        delivered(alloc, &[7; 760], 1)?
-    );
-    assert_eq!(rt; enqueue(alloc, &mut space, name, b"b", 3)?, granted(3));
-    Ok(())
-}
-
-#[test]
-fn two_messages(rt: HostRuntime) -> Result<(), Fail> {
-    let alloc = rt.alloc();
-    let name = Name::new(b"Q")?;
-    let order = Order::new(&[], Last::Fifo)?;
-    let mut space = Space::new(alloc, &shape(64, 2), 1, 8);
-    with_queue(alloc, &mut space, name, order)?;
-    assert_eq!(rt; enqueue(alloc, &mut space, name, b"a", 0)?, granted(0));
-    assert_eq!(rt; enqueue(alloc, &mut space, name, b"b", 1)?, granted(1));
-    assert_eq!(rt;
-        enqueue(alloc, &mut space, name, b"c", 2)?,
-        no_space(Resource::Messages, 1, 2, 2)
-    );
-    assert_eq!(rt;
-        dequeue(alloc, &mut space, name)?,
-        delivered(alloc, b"a", 0)?
-    );
-    assert_eq!(rt; enqueue(alloc, &mut space, name, b"d", 3)?, granted(3));
-    assert_eq!(rt;
-        dequeue(alloc, &mut space, name)?,
-        delivered(alloc, b"b", 1)?
-    );
-    assert_eq!(rt;
-        dequeue(alloc, &mut space, name)?,
-        delivered(alloc, b"d", 3)?
-    );
-    assert_eq!(rt;
-        dequeue(alloc, &mut space, name)?,
-        Some(CallAnswer::NoMessage)
-    );
+    refuses(&rt, alloc, &mut space, name, CallAnswer::NoMessage)?;
+    let large = no_space(Resource::Pages, 2, 0, 1);
+    enqueues(&rt, alloc, &mut space, name, (&[0; 761], 0), large)?;
+    enqueues(&rt, alloc, &mut space, name, (&[7; 760], 1), granted(1))?;
+    let full = no_space(Resource::Pages, 1, 1, 1);
+    enqueues(&rt, alloc, &mut space, name, (b"b", 2), full)?;
+    dequeues(&rt, alloc, &mut space, name, (&[7; 760], 1))?;
+    enqueues(&rt, alloc, &mut space, name, (b"b", 3), granted(3))?;
     Ok(())
 }
 
@@ -360,21 +356,12 @@ fn a_hundred(rt: HostRuntime) -> Result<(), Fail> {
     let mut space = Space::new(alloc, &shape(300, 128), 1, 8);
     with_queue(alloc, &mut space, name, order)?;
     for number in 0..100u32 {
-        assert_eq!(rt;
-            enqueue(alloc, &mut space, name, b"x", number)?,
-            granted(number)
-        );
+        enqueues(&rt, alloc, &mut space, name, (b"x", number), granted(number))?;
     }
     for number in 0..100u32 {
-        assert_eq!(rt;
-            dequeue(alloc, &mut space, name)?,
-            delivered(alloc, b"x", number)?
-        );
+        dequeues(&rt, alloc, &mut space, name, (b"x", number))?;
     }
-    assert_eq!(rt;
-        dequeue(alloc, &mut space, name)?,
-        Some(CallAnswer::NoMessage)
-    );
+    refuses(&rt, alloc, &mut space, name, CallAnswer::NoMessage)?;
     Ok(())
 }
 
@@ -389,19 +376,15 @@ fn replaced(
     let order = Order::new(&[], Last::Fifo)?;
     let mut space = Space::new(alloc, shape, 1, 8);
     with_queue(alloc, &mut space, a, order)?;
-    make(
-        alloc,
-        &mut space,
-        SpaceMove::PutQueue(1, definition(b, order)),
-    )?;
-    assert_eq!(rt; enqueue(alloc, &mut space, a, b"x", 0)?, granted(0));
-    assert_eq!(rt; enqueue(alloc, &mut space, a, b"y", 1)?, granted(1));
+    make(alloc, &mut space, SpaceMove::PutQueue(1, definition(b, order)))?;
+    enqueues(rt, alloc, &mut space, a, (b"x", 0), granted(0))?;
+    enqueues(rt, alloc, &mut space, a, (b"y", 1), granted(1))?;
     replace(rt, alloc, &mut space, change(0, 0, 9))?;
-    assert_eq!(rt; enqueue(alloc, &mut space, a, b"z", 2)?, full);
-    assert_eq!(rt; dequeue(alloc, &mut space, a)?, delivered(alloc, b"y", 1)?);
+    enqueues(rt, alloc, &mut space, a, (b"z", 2), full)?;
+    dequeues(rt, alloc, &mut space, a, (b"y", 1))?;
     replace(rt, alloc, &mut space, change(0, 1, 9))?;
-    assert_eq!(rt; dequeue(alloc, &mut space, a)?, Some(CallAnswer::NoMessage));
-    assert_eq!(rt; dequeue(alloc, &mut space, b)?, delivered(alloc, b"x", 0)?);
+    refuses(rt, alloc, &mut space, a, CallAnswer::NoMessage)?;
+    dequeues(rt, alloc, &mut space, b, (b"x", 0))?;
     Ok(())
 }
 
