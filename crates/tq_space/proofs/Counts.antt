@@ -1,15 +1,18 @@
 -- What the moves change in sums over all entries.
-use Rattle.std.proofs.Common.{◌≡◌, ℕ, ◌+◌, ◌<◌, ◌≤◌, ◌||◌, Bool, true, false, cond, not, List, [], ◌∷◌, map, length, get_or, suc, refl, sym, ap, ◌∙◌, subst, arith, Option, Some, None, ltb, ltb-true}
+use Rattle.std.proofs.Common.{◌≡◌, ℕ, ◌+◌, ◌<◌, ◌≤◌, ◌||◌, Bool, true, false, cond, not, List, [], ◌∷◌, map, length, get_or, suc, refl, sym, ap, ◌∙◌, subst, arith, Option, Some, None, ltb, ltb-true, ltb-false}
 use Rattle.std.specs.Prelude.{is_some}
 use Rattle.std.specs.List.{list_any, find, position_or_len, insert, remove, sum_by}
+use Rattle.std.proofs.lemmas.List.{get_or-map, length-map}
 use Rattle.std.proofs.lemmas.List.Edits.{length-insert, length-remove}
 use Rattle.std.proofs.lemmas.List.Sums.{sum_by-cons, sum_by-insert, sum_by-remove}
 use Rattle.tq_types.specs.declared.identifiers.MsgId.{MsgId}
+use Rattle.tq_model.specs.declared.space.Change.{Change}
 use Rattle.tq_model.specs.declared.space.QueueDef.{QueueDef}
-use Rattle.tq_model.specs.Space.{Item, Queue, has_id, holds_id, with_item, without_item, stands_before}
-use Rattle.tq_model.specs.Moves.{IndexedQueue, the_queue, has_index, item_inserted, item_removed, item_with_id, queue_added, queue_of, comes_before}
+use Rattle.tq_model.specs.Space.{Item, Queue, change_first, has_id, holds_id, with_item, without_item, stands_before}
+use Rattle.tq_model.specs.Moves.{IndexedQueue, the_queue, has_index, on_queue, item_inserted, item_removed, item_replaced, item_with_id, changed_item, indexed_holds, queue_added, queue_dropped, queue_of, comes_before}
 use Rattle.tq_model.specs.Room.{item_pages, queue_pages}
-use Rattle.tq_space.proofs.Places.{list_any-place, find-at, position_or_len-within, map-insert}
+use Rattle.tq_space.specs.Plain.{HasNoEntries}
+use Rattle.tq_space.proofs.Places.{list_any-place, find-at, position_or_len-within, map-insert, map-remove, remove-past}
 
 -- the sum of what each queue counts
 abbrev pub total : (Queue → ℕ) → List IndexedQueue → ℕ
@@ -80,6 +83,64 @@ total_added g index d none qs =
     let all : total g (queue_added index d qs) ≡ sum_by g (insert (map the_queue qs) place (queue_of d [])) = ap (λ (l : List Queue). sum_by g l) (map-insert the_queue qs place new) in
     let sum = sum_by-insert g (map the_queue qs) place (queue_of d []) in
     omega arith
+
+-- a queue changes and keeps what it counts
+pub total_changed : (g : Queue → ℕ) (test : IndexedQueue → Bool) (f : Queue → Queue) → ((q : Queue) → g (f q) ≡ g q) → (qs : List IndexedQueue)
+    → total g (change_first test (on_queue f) qs) ≡ total g qs
+total_changed g test f same [] = refl
+total_changed g test f same (q ∷ qs) =
+    let before = total-cons g q qs in
+    elim (test q) as (λ b. total g (cond b (on_queue f q ∷ qs) (q ∷ change_first test (on_queue f) qs)) ≡ total g (q ∷ qs)) [
+      | true ↦ let after = total-cons g (on_queue f q) qs in let one = same q.queue in omega arith
+      | false ↦ let after = total-cons g q (change_first test (on_queue f) qs) in let rest = total_changed g test f same qs in omega arith
+    ]
+
+-- a queue without entries goes
+pub total_dropped : (g : Queue → ℕ) → ((q : Queue) → q.items ≡ [] → g q ≡ 0) → (index : ℕ) (qs : List IndexedQueue) → HasNoEntries (find (has_index index) qs)
+    → total g (queue_dropped index qs) ≡ total g qs
+total_dropped g none index [] = λ h. refl
+total_dropped g none index (q ∷ rest) =
+    let qs = q ∷ rest in
+    let n = position_or_len (has_index index) qs in λ h.
+    elim (ltb n (length qs)) as (λ b. ltb n (length qs) ≡ b → total g (remove qs n) ≡ total g qs) [
+      | true ↦ λ e.
+          let below : n < length qs = ltb-true n (length qs) e in
+          let empty : (get_or qs n q).queue.items ≡ [] = subst HasNoEntries (find-at (has_index index) q qs below) h in
+          let gone = sum_by-remove g (map the_queue qs) n q.queue (omega (arith, below, length-map qs the_queue)) in
+          let this : g (get_or (map the_queue qs) n q.queue) ≡ 0 = ap g (get_or-map the_queue qs n q q.queue below) ∙ none (get_or qs n q).queue empty in
+          let all : total g (remove qs n) ≡ sum_by g (remove (map the_queue qs) n) = ap (λ (l : List Queue). sum_by g l) (map-remove the_queue qs n) in
+          omega arith
+      | false ↦ λ e. ap (λ (l : List IndexedQueue). total g l) (remove-past qs n (ltb-false n (length qs) e))
+    ] refl
+
+-- a change of a queue keeps which indices are there
+pub any_changed : (p test : IndexedQueue → Bool) (f : IndexedQueue → IndexedQueue) → ((q : IndexedQueue) → p (f q) ≡ p q) → (qs : List IndexedQueue)
+    → list_any p (change_first test f qs) ≡ list_any p qs
+any_changed p test f same [] = refl
+any_changed p test f same (q ∷ qs) =
+    elim (test q) as (λ b. list_any p (cond b (f q ∷ qs) (q ∷ change_first test f qs)) ≡ p q || list_any p qs) [
+      | true ↦ ap (λ (b : Bool). b || list_any p qs) (same q)
+      | false ↦ ap (λ (b : Bool). p q || b) (any_changed p test f same qs)
+    ]
+
+pub any_removed : (index : ℕ) (id : MsgId) (qs : List IndexedQueue) → list_any (has_index index) (item_removed id qs) ≡ list_any (has_index index) qs
+any_removed index id qs = any_changed (has_index index) (indexed_holds id) (on_queue (without_item id)) (λ q. refl) qs
+
+-- an entry goes and comes again, in a queue that is there
+pub total_replaced : (g : Queue → ℕ) (w : Item → ℕ) → ((item : Item) (q : Queue) → g (with_item item q) ≡ g q + w item)
+    → ((q : Queue) (at : ℕ) (d : Item) → at < length q.items → g (record q { items = remove q.items at }) + w (get_or q.items at d) ≡ g q)
+    → (c : Change) → ((item : Item) → w (changed_item c item) ≡ w item) → (qs : List IndexedQueue) → list_any (has_index c.queue) qs ≡ true
+    → total g (item_replaced c (item_with_id c.id qs) qs) ≡ total g qs
+total_replaced g w more less c same qs there =
+    elim (item_with_id c.id qs) as (λ o. item_with_id c.id qs ≡ o → total g (item_replaced c o qs) ≡ total g qs) [
+      | None ↦ λ e. refl
+      | Some item ↦ λ e.
+          let gone = total_removed g w less c.id item qs e in
+          let still : list_any (has_index c.queue) (item_removed c.id qs) ≡ true = any_removed c.queue c.id qs ∙ there in
+          let again = total_inserted g (w (changed_item c item)) (changed_item c item) (more (changed_item c item)) c.queue (item_removed c.id qs) still in
+          let kept = same item in
+          omega arith
+    ] refl
 
 -- the two sums
 

@@ -4,6 +4,8 @@ pub mod Inserted
 pub mod Removed
 pub mod Shelves
 pub mod Found
+pub mod Spares
+pub mod Definitions
 pub mod Counts
 pub mod Steps
-pub mod Enough
+pub mod Taken

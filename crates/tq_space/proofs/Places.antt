@@ -2,7 +2,7 @@
 use Rattle.std.proofs.Common.{suc, inl, inr, ◌≡◌, ◌≢◌, ℕ, ◌+◌, ◌<◌, ◌≤◌, Bool, true, false, cond, not, ◌||◌, List, [], ◌∷◌, ◌++◌, map, length, get_or, set, take, drop, refl, sym, ap, ◌∙◌, subst, arith, Option, Some, None, ltb, ltb-true, ltb-false, lt-ltb, le-ltb, unwrap_or}
 use Rattle.std.specs.Prelude.{is_some}
 use Rattle.std.specs.List.{All, list_any, find, position, position_or_len, insert, remove, sum_by}
-use Rattle.std.proofs.lemmas.List.{map-append, take-map, drop-map, get_or-map}
+use Rattle.std.proofs.lemmas.List.{map-append, take-map, drop-map, get_or-map, take_all, drop_all, append-nil}
 use Rattle.std.proofs.lemmas.List.Elements.{All-head, All-tail}
 use Rattle.std.proofs.lemmas.List.Sums.{sum_by-cons}
 use Rattle.tq_model.specs.Space.{change_first}
@@ -62,6 +62,14 @@ map-insert f xs i x = map-append f (take i xs) (x ∷ drop i xs) ∙ λ j. sym (
 
 pub map-remove : {X Y : Type 0} (f : X → Y) (xs : List X) (i : ℕ) → map f (remove xs i) ≡ remove (map f xs) i
 map-remove f xs i = map-append f (take i xs) (drop (suc i) xs) ∙ λ j. sym (take-map f i xs) j ++ sym (drop-map f (suc i) xs) j
+
+-- past the end nothing goes
+pub remove-past : {X : Type 0} (xs : List X) (n : ℕ) → length xs ≤ n → remove xs n ≡ xs
+remove-past xs n past =
+    let before : take n xs ≡ xs = take_all n xs past in
+    let behind : drop (suc n) xs ≡ [] = drop_all (suc n) xs (omega arith) in
+    let both : remove xs n ≡ xs ++ [] = λ i. before i ++ behind i in
+    both ∙ append-nil xs
 
 -- what `position` finds
 pub some-cond : {X : Type 0} (b : Bool) (x : X) → is_some (cond b (Some x) None) ≡ b

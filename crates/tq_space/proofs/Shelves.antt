@@ -208,9 +208,9 @@ module _ (slots : List (Option Entry)) (queues : List HeldQueue) (listed : IsLis
       ∙ λ i. insert (map (indexed_at slots) queues) ((is_place ∙ sym (position_or_len-map (indexed_at slots) (comes_before d.name) queues)) i)
       (record { index = is_index i; queue = queue_of (is_def i) (map (item_at slots) (is_empty i)) })
 
-pub room_added : (queues : List HeldQueue) (place n : ℕ) (q : HeldQueue) → HasRoomIn n queues → vec_len q.keys ≤ vec_capacity q.keys → HasRoomIn 0 (insert queues place q)
-room_added queues place n q room here =
-    let P : HeldQueue → Type 0 = λ (x : HeldQueue). vec_len x.keys + 0 ≤ vec_capacity x.keys in
-    let none : HasRoomIn 0 queues = room_less n 0 queues (omega arith) room in
-    All-append P (take place queues) (q ∷ drop place queues) (All-take P place queues none)
-    (All-cons P q (drop place queues) (omega arith) (All-drop P place queues none))
+pub room_added : (queues : List HeldQueue) (place n m : ℕ) (q : HeldQueue) → m ≤ n → HasRoomIn n queues → vec_len q.keys + m ≤ vec_capacity q.keys → HasRoomIn m (insert queues place q)
+room_added queues place n m q less room here =
+    let P : HeldQueue → Type 0 = λ (x : HeldQueue). vec_len x.keys + m ≤ vec_capacity x.keys in
+    let all : HasRoomIn m queues = room_less n m queues less room in
+    All-append P (take place queues) (q ∷ drop place queues) (All-take P place queues all)
+    (All-cons P q (drop place queues) here (All-drop P place queues all))

@@ -20,7 +20,7 @@ use Rattle.tq_model.specs.Room.{is_lacking, first_lacking, message_rooms, messag
 use Rattle.tq_model.specs.EnqueueStep.{CallOutcome, quality, next_id, new_item, enqueue_refusal, enqueue_refusal_at, enqueue_step, enqueued, with_message, unless_refused}
 use Rattle.tq_model.specs.DequeueStep.{can_answer, found_in, delivered, dequeue_answer, taken_from, dequeue_step, dequeue_refusal, refusal_at}
 use Rattle.tq_space.specs.declared.plans.Plan.{Plan}
-use Rattle.tq_space.specs.Plain.{HasNoExpirations, IsPlainEntry, CanMoveBy, IsEnough}
+use Rattle.tq_space.specs.Plain.{HasNoExpirations, IsPlainEntry, CanInsert, CanMoveBy}
 use Rattle.tq_space.specs.Applied.{plan_applied}
 use Rattle.tq_space.specs.Planned.{IsPlanOf}
 use Rattle.tq_space.specs.NewEntry.{plain_item}
@@ -178,8 +178,8 @@ module _ (held : IndexedSpace) (lasting : HasNoExpirations held.queues) (call : 
         let queue_there : list_any (has_index e.queue) held.queues ≡ true = ap (λ (n : ℕ). list_any (has_index n) held.queues) is_index ∙ found_any call.queue q held.queues found in
         let bounds = no_lack (record { resource = _; need = 1; held = messages_held S; limit = held.limits.messages }) (record { resource = _; need = pages_at (quality call.qos q.queue.qos) (length call.body); held = pages_held S; limit = held.limits.pages }) room in
         let P : List MsgId → List SpaceMove → Type 0 = λ (purge : List MsgId) (moves : List SpaceMove). CanMoveBy moves (purged_of purge held) in
-        let can : P [] (Insert e ∷ []) = ((plain, queue_there, omega (arith, bounds.0), omega (arith, bounds.1, is_pages)), tt) in
-        let enough : IsEnough 1 (Insert e ∷ []) = (omega arith, tt) in (
+        let first : CanInsert e held = record { plain = plain; there = queue_there; messages = omega (arith, bounds.0); pages = omega (arith, bounds.1, is_pages) } in
+        let can : P [] (Insert e ∷ []) = (first, tt) in (
           record {
             answer = is_answer ∙ ap (λ (o : CallOutcome). Some o.answer) (sym step);
             space =
@@ -187,7 +187,6 @@ module _ (held : IndexedSpace) (lasting : HasNoExpirations held.queues) (call : 
                 ∙ (λ i. record S { queues = inserted i })
                 ∙ sym after ∙ ap (λ (o : CallOutcome). o.space) (sym step);
             can = subst (λ (moves : List SpaceMove). P plan.purge moves) (sym is_moves) (subst (λ (purge : List MsgId). P purge (Insert e ∷ [])) (sym no_purge) can);
-            enough = subst (λ (moves : List SpaceMove). IsEnough (length moves) moves) (sym is_moves) enough;
           },
           none,
         )
@@ -255,15 +254,12 @@ dequeue_planned held call clock item plan none step no_purge is_moves is_answer 
       | false ↦ λ i. record S { queues = without_seen item.letter.id held.queues i }
     ] in
     let can : CanMoveBy (moves_at call.peek) held =
-    elim call.peek as (λ b. CanMoveBy (moves_at b) held) [ true ↦ tt | false ↦ (tt, tt) ] in
-    let enough : IsEnough (length (moves_at call.peek)) (moves_at call.peek) =
-    elim call.peek as (λ b. IsEnough (length (moves_at b)) (moves_at b)) [ true ↦ tt | false ↦ tt ] in (
+    elim call.peek as (λ b. CanMoveBy (moves_at b) held) [ true ↦ tt | false ↦ (tt, tt) ] in (
       record {
         answer = is_answer ∙ ap (λ (o : CallOutcome). Some o.answer) (sym step);
         space = (λ i. space_of (moved_by (is_moves i) (purged_of (no_purge i) held))) ∙ after ∙ ap (λ (o : CallOutcome). o.space) (sym step);
         can = subst (λ (moves : List SpaceMove). CanMoveBy moves (purged_of plan.purge held)) (sym is_moves)
             (subst (λ (purge : List MsgId). CanMoveBy (moves_at call.peek) (purged_of purge held)) (sym no_purge) can);
-        enough = subst (λ (moves : List SpaceMove). IsEnough (length moves) moves) (sym is_moves) enough;
       },
       none,
     )

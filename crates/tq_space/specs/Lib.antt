@@ -1,5 +1,6 @@
 pub mod Slots
 pub mod Grown
+pub mod Spare
 pub mod Shelf
 pub mod State
 pub mod Plain

@@ -1,6 +1,6 @@
 -- What calls and moves are restricted to for now.
-use Rattle.std.specs.Prelude.{◌≡◌, ◌≢◌, ℕ, ◌+◌, ◌≤◌, ◌-◌, Bool, true, false, List, [], ◌∷◌, length, Option, Some, None}
-use Rattle.std.specs.List.{All, list_any}
+use Rattle.std.specs.Prelude.{◌≡◌, ◌≢◌, ℕ, ◌+◌, ◌≤◌, Bool, true, false, List, [], ◌∷◌, length, Option, Some, None}
+use Rattle.std.specs.List.{All, list_any, find}
 use Rattle.tq_types.specs.declared.messages.Mark.{Mark}
 use Rattle.tq_types.specs.declared.messages.Mark.TheVariants.{Free}
 use Rattle.tq_types.specs.declared.messages.AskedQos.{AskedQos}
@@ -10,6 +10,7 @@ use Rattle.tq_model.specs.declared.calls.Place.{Place}
 use Rattle.tq_model.specs.declared.calls.Place.TheVariants.{Plain}
 use Rattle.tq_model.specs.declared.calls.EnqueueAsk.{EnqueueAsk}
 use Rattle.tq_model.specs.declared.calls.DequeueAsk.{DequeueAsk}
+use Rattle.tq_model.specs.declared.space.Change.{Change}
 use Rattle.tq_model.specs.declared.space.SpaceMove.{SpaceMove}
 use Rattle.tq_model.specs.declared.space.SpaceMove.TheVariants.{Insert, Remove, Replace, PutQueue, DropQueue}
 use Rattle.tq_model.specs.Space.{Item}
@@ -32,44 +33,45 @@ pub record IsPlainEntry (e : Entry) : Type 0 where
   pub mark : e.mark ≡ Free
   pub expiration : e.message.expiration ≡ None
 
+-- a change after which no transaction holds the entry and it does not expire
+pub record IsPlainChange (c : Change) : Type 0 where
+  pub mark : c.mark ≡ Free
+  pub expiration : c.expiration ≡ None
+
 -- no entry expires
 abbrev pub HasNoExpirations : List IndexedQueue → Type 0
 HasNoExpirations queues = All (λ q. All (λ item. item.letter.expiration ≡ None) q.queue.items) queues
 
--- for how many entries and queues these moves need room
-abbrev pub need_of : SpaceMove → ℕ
-need_of (Insert e) = 1
-need_of (Remove id) = 0
-need_of (Replace c) = 1
-need_of (PutQueue index d) = 1
-need_of (DropQueue index) = 0
+-- Which moves can be made
 
--- the room that is left after a move
-abbrev pub ready_after : SpaceMove → ℕ → ℕ
-ready_after (Insert e) ready = ready - 1
-ready_after (Remove id) ready = ready
-ready_after (Replace c) ready = ready - 1
-ready_after (PutQueue index d) ready = 0
-ready_after (DropQueue index) ready = ready
+-- an entry that is put in: its queue is there, and what it leaves is within the limits of the space's creation
+pub record CanInsert (e : Entry) (s : IndexedSpace) : Type 0 where
+  pub plain : IsPlainEntry e
+  pub there : list_any (has_index e.queue) s.queues ≡ true
+  pub messages : messages_held (space_of s) + 1 ≤ s.limits.messages
+  pub pages : pages_held (space_of s) + pages_at e.message.qos (length e.message.body) ≤ s.limits.pages
 
--- the room is enough for the moves; a queue that is put leaves none
-abbrev pub IsEnough : ℕ → List SpaceMove → Type 0
-IsEnough ready [] = Unit {0}
-IsEnough ready (Insert e ∷ moves) = (1 ≤ ready) × IsEnough (ready - 1) moves
-IsEnough ready (Remove id ∷ moves) = IsEnough ready moves
-IsEnough ready (Replace c ∷ moves) = (1 ≤ ready) × IsEnough (ready - 1) moves
-IsEnough ready (PutQueue index d ∷ moves) = (1 ≤ ready) × IsEnough 0 moves
-IsEnough ready (DropQueue index ∷ moves) = IsEnough ready moves
+-- an entry that is changed: the queue that it comes to is there
+pub record CanReplace (c : Change) (s : IndexedSpace) : Type 0 where
+  pub plain : IsPlainChange c
+  pub there : list_any (has_index c.queue) s.queues ≡ true
 
--- a move that can be made now: its queue is there, and what it leaves is within the limits of the space's creation
+-- if there is a queue, it has no entries
+abbrev pub HasNoEntries : Option IndexedQueue → Type 0
+HasNoEntries None = Unit {0}
+HasNoEntries (Some q) = q.queue.items ≡ []
+
+-- a queue that is dropped
+abbrev pub CanDrop : ℕ → IndexedSpace → Type 0
+CanDrop index s = HasNoEntries (find (has_index index) s.queues)
+
+-- a move that can be made now: a removal and a queue that is put can always be
 abbrev pub CanMove : SpaceMove → IndexedSpace → Type 0
-CanMove (Insert e) s =
-    IsPlainEntry e × (list_any (has_index e.queue) s.queues ≡ true) × (messages_held (space_of s) + 1 ≤ s.limits.messages)
-    × (pages_held (space_of s) + pages_at e.message.qos (length e.message.body) ≤ s.limits.pages)
+CanMove (Insert e) s = CanInsert e s
 CanMove (Remove id) s = Unit {0}
-CanMove (Replace c) s = ⊥
-CanMove (PutQueue index d) s = list_any (has_index index) s.queues ≡ false
-CanMove (DropQueue index) s = ⊥
+CanMove (Replace c) s = CanReplace c s
+CanMove (PutQueue index d) s = Unit {0}
+CanMove (DropQueue index) s = CanDrop index s
 
 -- the moves can be made one after another
 abbrev pub CanMoveBy : List SpaceMove → IndexedSpace → Type 0

@@ -12,6 +12,7 @@ use Rattle.tq_space.specs.declared.shelf.HeldQueue.{HeldQueue}
 use Rattle.tq_space.specs.declared.shelf.Shelf.TheInside.{Inside}
 use Rattle.tq_space.specs.State.{ShelfValue}
 use Rattle.tq_space.specs.Grown.{HasRoomIn}
+use Rattle.tq_space.specs.Spare.{HasSpare}
 use Rattle.tq_space.specs.Slots.{slot_at, item_at, slot_count, IsPlainSlot}
 
 abbrev pub indexed_at : List (Option Entry) → HeldQueue → IndexedQueue
@@ -27,11 +28,13 @@ pub record IsListed (slots : List (Option Entry)) (queues : List HeldQueue) : Ty
   pub indices : (index : ℕ) → count_by (λ q. q.index == index) queues ≤ 1
   pub plain : (key : ℕ) → IsPlainSlot (slot_at slots key)
 
+-- there is room for as many moves as are ready, and for the keys of as many new queues
 pub record IsShelf (s : Inside) : Type 0 where
   pub listed : IsListed s.entries.slots s.queues.items
   pub entry_room : slab_len s.entries + s.ready ≤ s.entries.capacity
   pub key_room : HasRoomIn s.ready s.queues.items
   pub queue_room : vec_len s.queues + s.ready ≤ vec_capacity s.queues
+  pub spare : HasSpare s.ready s.spare
 
 abbrev pub shelf_view : Inside → ShelfValue
 shelf_view s = record { queues = map (indexed_at s.entries.slots) s.queues.items; ready = s.ready }

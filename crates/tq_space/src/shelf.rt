@@ -1,19 +1,20 @@
 ghost use Rattle.std.specs.Prelude.{true, false, ◌≡◌, ℕ, ◌+◌, ◌-◌, ◌<◌, ◌≤◌, ◌==◌, [], ◌∷◌, length, map, IsTrue, IfOk, OnOk, OnErr, IfSome, IfNone, MatchOption, option_copied, option_map, is_some, Some, None, vec_len, vec_capacity};
-ghost use Rattle.std.specs.List.{position, position_or_len, find, list_any, insert};
+ghost use Rattle.std.specs.List.{position, position_or_len, find, list_any, insert, All};
 ghost use Rattle.std.specs.Str.{bytes_eq};
-ghost use Rattle.tq_model.specs.Space.{is_eligible, is_free, is_past, same_id, has_id, is_named, stands_before, name_before};
-ghost use Rattle.tq_model.specs.Moves.{holding_of, queue_added, item_of, item_inserted, item_removed, item_with_id, queue_put, has_index, indexed_holds};
+ghost use Rattle.tq_model.specs.Space.{is_eligible, is_free, is_past, same_id, has_id, is_named, stands_before, name_before, change_first};
+ghost use Rattle.tq_model.specs.Moves.{holding_of, queue_of, queue_added, queue_dropped, on_queue, item_of, item_inserted, item_removed, item_replaced, item_with_id, changed_item, has_index, indexed_holds};
 ghost use Rattle.tq_model.specs.DequeueStep.{can_answer, is_candidate, has_asked_id, has_asked_corr};
 ghost use Rattle.tq_space.specs.Reads.{indexed_named, HasDistinctIndices};
-ghost use Rattle.tq_space.specs.Plain.{IsPlainEntry, HasNoExpirations};
+ghost use Rattle.tq_space.specs.Plain.{IsPlainEntry, IsPlainChange, HasNoExpirations, HasNoEntries};
 ghost use Rattle.tq_space.specs.Grown.{IsGrown, AreGrown, HasRoomIn};
+ghost use Rattle.tq_space.specs.Spare.{IsSpare, HasSpare};
 ghost use Rattle.slab.specs.Slab.{HasRoomFor};
 ghost use Rattle.tq_space.specs.Slots.{slot_test, slot_at, label_before};
 
 use slab::Slab;
 use std::alloc::{AllocError, Global};
 use std::marker::Model;
-use tq_model::{DequeueCall, QueueDef};
+use tq_model::{Change, DequeueCall, QueueDef};
 use tq_types::{CorrId, Entry, Label, Mark, MsgId, Name, Order, Qos, compare};
 
 /// A queue, with the keys of its entries in the order of their labels.
@@ -29,7 +30,9 @@ pub(crate) struct HeldQueue {
 pub(crate) struct Shelf {
     queues: Vec<HeldQueue>,
     entries: Slab<Entry>,
-    /// For how many more entries or queues there is room.
+    /// Empty lists, one for the keys of each queue to come.
+    spare: Vec<Vec<usize>>,
+    /// For how many more moves there is room.
     ready: usize,
     alloc: Global,
 }
@@ -173,10 +176,51 @@ fn reserve_keys(queues: &mut [HeldQueue], more: usize) -> Result<(), AllocError>
     Ok(())
 }
 
-/// Makes room for so many more entries and queues.
+/// Makes room for so many keys in a spare list.
+fn widen(keys: &mut Vec<usize>, more: usize) -> Result<(), AllocError>
+    ensures kept { (n : ℕ) → IsSpare n keys.old → IsSpare n keys.new }
+    ensures room { OnOk result ((n : ℕ) → IsSpare n keys.old → IsSpare more keys.new) }
+{
+    keys.reserve(more)
+}
+
+/// Makes room for so many keys in each spare list.
+fn widen_spare(spare: &mut [Vec<usize>], more: usize) -> Result<(), AllocError>
+    ensures kept { (n : ℕ) → All (IsSpare n) spare.old → All (IsSpare n) spare.new }
+    ensures room { OnOk result ((n : ℕ) → All (IsSpare n) spare.old → All (IsSpare more) spare.new) }
+{
+    for at in 0..spare.len() {
+        widen(&mut spare[at], more)?;
+    }
+    Ok(())
+}
+
+/// Adds spare lists with room for so many keys, until there are so many.
+fn add_spare(alloc: Global, spare: &mut Vec<Vec<usize>>, more: usize) -> Result<(), AllocError>
+    ensures kept { (n : ℕ) → n ≤ more → HasSpare n spare.old → HasSpare n spare.new }
+    ensures added { OnOk result (All (IsSpare more) spare.old.items → HasSpare more spare.new) }
+{
+    while spare.len() < more {
+        spare.push(Vec::with_capacity(alloc, more)?)?;
+    }
+    Ok(())
+}
+
+/// Makes room for the keys of so many queues to come.
+fn reserve_spare(alloc: Global, spare: &mut Vec<Vec<usize>>, more: usize) -> Result<(), AllocError>
+    ensures kept { (n : ℕ) → n ≤ more → HasSpare n spare.old → HasSpare n spare.new }
+    ensures added { OnOk result ((n : ℕ) → HasSpare n spare.old → HasSpare more spare.new) }
+{
+    widen_spare(spare, more)?;
+    add_spare(alloc, spare, more)
+}
+
+/// Makes room for so many more entries and queues, and for the keys of the queues.
 fn reserve_all(
+    alloc: Global,
     queues: &mut Vec<HeldQueue>,
     entries: &mut Slab<Entry>,
+    spare: &mut Vec<Vec<usize>>,
     more: usize,
 ) -> Result<(), AllocError>
     ensures slots { entries.new.slots ≡ entries.old.slots }
@@ -184,13 +228,45 @@ fn reserve_all(
     ensures grown { AreGrown queues.old.items queues.new.items }
     ensures len { vec_len queues.new ≡ vec_len queues.old }
     ensures queue_capacity { vec_capacity queues.old ≤ vec_capacity queues.new }
+    ensures spare_kept { (n : ℕ) → n ≤ more → HasSpare n spare.old → HasSpare n spare.new }
     ensures entry_room { OnOk result (HasRoomFor entries.new more) }
     ensures key_room { OnOk result (HasRoomIn more queues.new.items) }
     ensures queue_room { OnOk result (vec_len queues.new + more ≤ vec_capacity queues.new) }
+    ensures spare_room { OnOk result ((n : ℕ) → HasSpare n spare.old → HasSpare more spare.new) }
 {
     entries.reserve(more)?;
     queues.reserve(more)?;
+    reserve_spare(alloc, spare, more)?;
     reserve_keys(queues, more)
+}
+
+/// Takes a spare list.
+fn take_spare(spare: &mut Vec<Vec<usize>>) -> Vec<usize>
+    requires { 1 ≤ vec_len spare.old }
+    ensures rest { (n : ℕ) → HasSpare n spare.old → HasSpare (n - 1) spare.new }
+    ensures taken { (n : ℕ) → HasSpare n spare.old → IsSpare n result }
+{
+    match spare.pop() {
+        Some(keys) => keys,
+        None => unreachable!(),
+    }
+}
+
+/// The entry with the values of the change.
+fn changed_entry(mut entry: Entry, change: &Change) -> Entry
+    requires { IsPlainChange change.now }
+    ensures item { item_of result ≡ changed_item change.now (item_of entry) }
+    ensures queue { result.queue ≡ change.now.queue }
+    ensures plain { IsPlainEntry result }
+{
+    entry.queue = change.queue;
+    entry.label = change.label;
+    entry.mark = change.mark;
+    entry.message.priority = change.priority;
+    entry.message.available = change.available;
+    entry.message.expiration = change.expiration;
+    entry.message.retries = change.retries;
+    entry
 }
 
 /// Whether there is an entry that answers a dequeue.
@@ -284,6 +360,7 @@ impl Shelf {
         Shelf {
             queues: Vec::new(alloc),
             entries: Slab::new(alloc),
+            spare: Vec::new(alloc),
             ready: 0,
             alloc,
         }
@@ -325,8 +402,22 @@ impl Shelf {
         self.entries.try_remove(key)
     }
 
-    /// Makes room for so many more entries or queues. After an `Err` the queues are as they were,
-    /// and so is what there was room for.
+    /// Changes the entry of the identifier and puts it in its place in the queue of its new index, if
+    /// there is one of that identifier; its key may change.
+    pub(crate) fn replace(&mut self, change: &Change)
+        requires room { 1 ≤ self.old.ready }
+        requires there { list_any (has_index change.now.queue) self.old.queues ≡ true }
+        requires plain { IsPlainChange change.now }
+        ensures queues { self.new.queues ≡ item_replaced change.now (item_with_id change.now.id self.old.queues) self.old.queues }
+        ensures ready { self.old.ready ≤ self.new.ready + 1 }
+    {
+        if let Some(entry) = self.remove(&change.id) {
+            self.insert(changed_entry(entry, change));
+        }
+    }
+
+    /// Makes room for so many more moves. After an `Err` the queues are as they were, and so is what
+    /// there was room for.
     pub(crate) fn reserve(&mut self, more: usize) -> Result<(), AllocError>
         ensures queues { self.new.queues ≡ self.old.queues }
         ensures ready { OnOk result (more ≤ self.new.ready) }
@@ -335,27 +426,55 @@ impl Shelf {
         if more <= self.ready {
             return Ok(());
         }
-        reserve_all(&mut self.queues, &mut self.entries, more)?;
+        reserve_all(
+            self.alloc,
+            &mut self.queues,
+            &mut self.entries,
+            &mut self.spare,
+            more,
+        )?;
         self.ready = more;
         Ok(())
     }
 
-    /// Makes a queue of an index that is not there; nothing more is ready then.
+    /// Makes a queue of an index that is not there.
     pub(crate) fn add_queue(&mut self, index: u16, def: &QueueDef)
         requires room { 1 ≤ self.old.ready }
         requires new { list_any (has_index index) self.old.queues ≡ false }
         ensures queues { self.new.queues ≡ queue_added index def.now self.old.queues }
-        ensures ready { self.new.ready ≡ 0 }
+        ensures ready { self.new.ready + 1 ≡ self.old.ready }
     {
         let place = place_by_name(&self.queues, &def.name);
-        let keys = Vec::new(self.alloc);
+        let keys = take_spare(&mut self.spare);
         let queue = HeldQueue {
             index,
             def: *def,
             keys,
         };
         put_queue(&mut self.queues, place, queue);
-        self.ready = 0;
+        self.ready -= 1;
+    }
+
+    /// Changes the definition of the queue of that index, if there is one; its entries stay.
+    pub(crate) fn change_queue(&mut self, index: u16, def: &QueueDef)
+        ensures queues { self.new.queues ≡ change_first (has_index index) (on_queue (λ queue. queue_of def.now queue.items)) self.old.queues }
+        ensures ready { self.new.ready ≡ self.old.ready }
+    {
+        if let Some(at) = place_indexed(&self.queues, index) {
+            let queue = &mut self.queues[at];
+            queue.def = *def;
+        }
+    }
+
+    /// Removes the queue of that index, which has no entries, if there is one.
+    pub(crate) fn drop_queue(&mut self, index: u16)
+        requires { HasNoEntries (find (has_index index) self.old.queues) }
+        ensures queues { self.new.queues ≡ queue_dropped index self.old.queues }
+        ensures ready { self.new.ready ≡ self.old.ready }
+    {
+        if let Some(at) = place_indexed(&self.queues, index) {
+            self.queues.remove(at);
+        }
     }
 
     /// The queue of that name.

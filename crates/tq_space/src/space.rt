@@ -1,12 +1,12 @@
 ghost use Rattle.std.specs.Prelude.{◌≡◌, ℕ, true, false, ◌+◌, ◌-◌, ◌*◌, option_copied, option_to_list, if◌then◌else◌, ◌≤◌, [], ◌∷◌, length, IfOk, OnOk, OnErr, MatchOption, Some, None, option_map};
-ghost use Rattle.tq_model.specs.Space.{new_space, overhead_pages, divided_up, body_length};
+ghost use Rattle.tq_model.specs.Space.{new_space, body_length};
 ghost use Rattle.tq_model.specs.Moves.{item_of, space_of, purged_of, moved, moved_by, has_index, item_with_id};
 ghost use Rattle.std.specs.List.{find, list_any};
 ghost use Rattle.tq_space.specs.Reads.{indexed_named};
-ghost use Rattle.tq_model.specs.Room.{pages_for, pages_at, message_rooms, first_lacking};
+ghost use Rattle.tq_model.specs.Room.{pages_at, message_rooms, first_lacking};
 ghost use Rattle.tq_model.specs.EnqueueStep.{quality, next_id, enqueue_step, enqueue_refusal};
 ghost use Rattle.tq_model.specs.DequeueStep.{dequeue_step, dequeue_refusal, delivered, content_bytes};
-ghost use Rattle.tq_space.specs.Plain.{IsPlainEnqueue, IsPlainDequeue, IsPlainEntry, IsEnough, CanMoveBy, CanMove, need_of, ready_after};
+ghost use Rattle.tq_space.specs.Plain.{IsPlainEnqueue, IsPlainDequeue, IsPlainEntry, CanInsert, CanReplace, CanDrop, CanMove, CanMoveBy};
 ghost use Rattle.tq_space.specs.Applied.{plan_applied};
 ghost use Rattle.tq_space.specs.Planned.{MeetsStep, IsRefused};
 ghost use Rattle.tq_space.specs.NewEntry.{plain_item, rooms};
@@ -16,7 +16,8 @@ use crate::shelf::Shelf;
 use std::alloc::{AllocError, Global};
 use std::marker::Model;
 use tq_model::{
-    CallAnswer, Delivery, DequeueAsk, DequeueCall, EnqueueAsk, QueueDef, Shape, SpaceMove,
+    CallAnswer, Change, Delivery, DequeueAsk, DequeueCall, EnqueueAsk, QueueDef, Shape, SpaceMove,
+    message_pages, overhead_pages,
 };
 use tq_types::{
     Arrival, AskedQos, Body, Entry, Label, Lack, Mark, Message, MsgId, Name, Path, Qos, Resource,
@@ -34,7 +35,7 @@ struct SpaceLimits {
 }
 
 /// One queue space in memory. Clauses see the space with the indices of its queues, and for how
-/// many more entries or queues there is room without memory.
+/// many more moves of any kind there is room without memory.
 #[derive(Drop)]
 pub struct Space {
     site: u32,
@@ -56,45 +57,6 @@ impl Model for Space {
     ghost view = { space_view };
 
     ghost invariant = { IsSpace };
-}
-
-/// The pages of a space with so many queues, messages and transactions that are not for messages.
-fn overhead_for(queues: u16, messages: u16, transactions: u16) -> u64
-    ensures { result ≡ 1 + 2 * (divided_up (64 + 512 * queues + 64 * messages + 160 * transactions) 1024 + (16 + divided_up (72 * messages) 1024)) }
-{
-    let slots = 64
-        + 512 * u64::from(queues)
-        + 64 * u64::from(messages)
-        + 160 * u64::from(transactions);
-    let log = 72 * u64::from(messages);
-    1 + 2 * ((slots + 1023) / 1024 + (16 + (log + 1023) / 1024))
-}
-
-/// The pages that are not for messages.
-fn overhead_of(shape: &Shape) -> u64
-    ensures { result ≡ overhead_pages shape.now }
-{
-    overhead_for(shape.queues, shape.messages, shape.transactions)
-}
-
-/// The pages of a message with a body of `n` bytes.
-fn body_pages(n: usize) -> u64
-    ensures pages { result ≡ pages_for n }
-    ensures most { n ≤ 65536 → result ≤ 65 }
-{
-    let n = n as u64;
-    n / 1016 + (n % 1016 + 1271) / 1016
-}
-
-/// The pages that a message takes: none where it is not persistent.
-fn message_pages(qos: Qos, n: usize) -> u64
-    ensures pages { result ≡ pages_at qos n }
-    ensures most { n ≤ 65536 → result ≤ 65 }
-{
-    match qos {
-        Qos::Persistent => body_pages(n),
-        Qos::NonPersistent => 0,
-    }
 }
 
 /// The quality that is asked for, or the queue's default.
@@ -237,7 +199,7 @@ impl Space {
         ensures space { space_of result.held ≡ new_space shape.now site number }
         ensures ready { result.ready ≡ 0 }
     {
-        let pages = u64::from(shape.pages).saturating_sub(overhead_of(shape));
+        let pages = u64::from(shape.pages).saturating_sub(overhead_pages(shape));
         Space {
             site,
             number,
@@ -338,10 +300,10 @@ impl Space {
         Ok(plan)
     }
 
-    /// Makes the room that `apply` needs for this plan. After an `Err` the space is as it was.
+    /// Makes the room that `apply` needs for as many moves as this plan has, of whatever kind. After
+    /// an `Err` the space is as it was.
     pub fn reserve(&mut self, plan: &Plan) -> Result<(), AllocError>
-        requires { IsEnough (length plan.now.moves) plan.now.moves }
-        ensures ready { OnOk result (IsEnough self.new.ready plan.now.moves) }
+        ensures ready { OnOk result (length plan.now.moves ≤ self.new.ready) }
         ensures held { self.new.held ≡ self.old.held }
         ensures err { OnErr result (self.new ≡ self.old) }
     {
@@ -350,9 +312,9 @@ impl Space {
 
     /// Does a plan for which there is room: the purge, and then the moves. It takes no memory.
     pub fn apply(&mut self, plan: Plan)
-        requires ready { IsEnough self.old.ready plan.moves }
+        requires ready { length plan.moves ≤ self.old.ready }
         requires can { CanMoveBy plan.moves (purged_of plan.purge self.old.held) }
-        ensures { self.new.held ≡ plan_applied plan self.old.held }
+        ensures held { self.new.held ≡ plan_applied plan self.old.held }
     {
         let Plan {
             purge,
@@ -373,7 +335,7 @@ impl Space {
     }
 
     fn make_all(&mut self, moves: Moves)
-        requires ready { IsEnough self.old.ready moves }
+        requires ready { length moves ≤ self.old.ready }
         requires can { CanMoveBy moves self.old.held }
         ensures { self.new.held ≡ moved_by moves self.old.held }
     {
@@ -385,22 +347,23 @@ impl Space {
     }
 
     fn make(&mut self, item: SpaceMove)
-        requires ready { need_of item ≤ self.old.ready }
+        requires ready { 1 ≤ self.old.ready }
         requires can { CanMove item self.old.held }
         ensures held { self.new.held ≡ moved item self.old.held }
-        ensures ready { self.new.ready ≡ ready_after item self.old.ready }
+        ensures ready { self.old.ready ≤ self.new.ready + 1 }
     {
         match item {
             SpaceMove::Insert(entry) => self.insert(entry),
             SpaceMove::Remove(id) => self.remove(&id),
-            SpaceMove::PutQueue(index, def) => self.add_queue(index, &def),
-            SpaceMove::Replace(_) | SpaceMove::DropQueue(_) => unreachable!(),
+            SpaceMove::Replace(change) => self.replace(&change),
+            SpaceMove::PutQueue(index, def) => self.put_queue(index, &def),
+            SpaceMove::DropQueue(index) => self.drop_queue(index),
         }
     }
 
     fn insert(&mut self, entry: Entry)
         requires ready { 1 ≤ self.old.ready }
-        requires can { CanMove (SpaceMove.Insert entry) self.old.held }
+        requires can { CanInsert entry self.old.held }
         ensures held { self.new.held ≡ moved (SpaceMove.Insert entry) self.old.held }
         ensures ready { self.new.ready + 1 ≡ self.old.ready }
     {
@@ -420,13 +383,33 @@ impl Space {
         }
     }
 
-    fn add_queue(&mut self, index: u16, def: &QueueDef)
+    fn replace(&mut self, change: &Change)
         requires ready { 1 ≤ self.old.ready }
-        requires can { CanMove (SpaceMove.PutQueue index def.now) self.old.held }
-        ensures held { self.new.held ≡ moved (SpaceMove.PutQueue index def.now) self.old.held }
-        ensures ready { self.new.ready ≡ 0 }
+        requires can { CanReplace change.now self.old.held }
+        ensures held { self.new.held ≡ moved (SpaceMove.Replace change.now) self.old.held }
+        ensures ready { self.old.ready ≤ self.new.ready + 1 }
     {
-        self.shelf.add_queue(index, def);
+        self.shelf.replace(change);
+    }
+
+    fn put_queue(&mut self, index: u16, def: &QueueDef)
+        requires ready { 1 ≤ self.old.ready }
+        ensures held { self.new.held ≡ moved (SpaceMove.PutQueue index def.now) self.old.held }
+        ensures ready { self.old.ready ≤ self.new.ready + 1 }
+    {
+        if self.shelf.holds_index(index) {
+            self.shelf.change_queue(index, def);
+        } else {
+            self.shelf.add_queue(index, def);
+        }
+    }
+
+    fn drop_queue(&mut self, index: u16)
+        requires { CanDrop index self.old.held }
+        ensures held { self.new.held ≡ moved (SpaceMove.DropQueue index) self.old.held }
+        ensures ready { self.new.ready ≡ self.old.ready }
+    {
+        self.shelf.drop_queue(index);
     }
 
     /// A copy of the body of the entry with that identifier; none where there is no such entry.

@@ -27,14 +27,17 @@ invariant_of-self c =
     let index = c.args.index in
     let d = c.args.def.now in
     let place = c.place_by_name-place.result in
-    let q : HeldQueue = record { index = index; def = d; keys = c.new-keys.result } in
+    let q : HeldQueue = record { index = index; def = d; keys = c.take_spare-keys.result } in
+    let ready = ap (λ (v : ShelfValue). v.ready) c.self.view_is in
+    let spare = c.take_spare-keys.ensures.taken c.self.inside.ready c.self.invariant.spare in
     let new : list_any (has_index index) (map (indexed_at slots) queues) ≡ false = ap (λ (v : ShelfValue). list_any (has_index index) v.queues) c.self.view_is ∙ c.requires.new in
-    let short : vec_len c.new-keys.result ≤ vec_capacity c.new-keys.result = omega (arith, c.new-keys.ensures.len) in
     record {
-      listed = subst (IsListed slots) (sym c.put_queue.ensures.items) (added_listed slots queues c.self.invariant.listed index d q place refl refl c.new-keys.ensures.items new);
+      listed = subst (IsListed slots) (sym c.put_queue.ensures.items) (added_listed slots queues c.self.invariant.listed index d q place refl refl spare.empty new);
       entry_room = omega (arith, c.self.invariant.entry_room);
-      key_room = subst (HasRoomIn 0) (sym c.put_queue.ensures.items) (room_added queues place c.self.inside.ready q c.self.invariant.key_room short);
-      queue_room = omega (arith, c.put_queue.ensures.len, c.put_queue.ensures.capacity, c.self.invariant.queue_room, c.requires.room, ap (λ (v : ShelfValue). v.ready) c.self.view_is);
+      key_room = subst (HasRoomIn (c.self.inside.ready - 1)) (sym c.put_queue.ensures.items)
+          (room_added queues place c.self.inside.ready (c.self.inside.ready - 1) q (omega arith) c.self.invariant.key_room (omega (arith, spare.room)));
+      queue_room = omega (arith, c.put_queue.ensures.len, c.put_queue.ensures.capacity, c.self.invariant.queue_room, c.requires.room, ready);
+      spare = c.take_spare-keys.ensures.rest c.self.inside.ready c.self.invariant.spare;
     }
 
 pub returns-clause-queues : goal.returns-clause-queues
@@ -44,9 +47,11 @@ returns-clause-queues c =
     let index = c.args.index in
     let d = c.args.def.now in
     let place = c.place_by_name-place.result in
-    let q : HeldQueue = record { index = index; def = d; keys = c.new-keys.result } in
+    let q : HeldQueue = record { index = index; def = d; keys = c.take_spare-keys.result } in
+    let ready = ap (λ (v : ShelfValue). v.ready) c.self.view_is in
+    let spare = c.take_spare-keys.ensures.taken c.self.inside.ready c.self.invariant.spare in
     let new : list_any (has_index index) (map (indexed_at slots) queues) ≡ false = ap (λ (v : ShelfValue). list_any (has_index index) v.queues) c.self.view_is ∙ c.requires.new in
     ap (λ (l : List HeldQueue). map (indexed_at slots) l) c.put_queue.ensures.items
-    ∙ added_seen slots queues c.self.invariant.listed index d q place refl refl c.new-keys.ensures.items new
+    ∙ added_seen slots queues c.self.invariant.listed index d q place refl refl spare.empty new
     (c.place_by_name-place.ensures ∙ ap (position_or_len (λ (x : HeldQueue). name_before d.name x.def.name)) c.deref.ensures.value)
     ∙ ap (λ (v : ShelfValue). queue_added index d v.queues) c.self.view_is

@@ -11,6 +11,7 @@ use Rattle.tq_space.specs.Shelf.{indexed_at}
 use Rattle.tq_space.proofs.Places.{position_or_len-within, position-none, position-found}
 use Rattle.tq_space.proofs.Keys.{IsRekeyed, index_there, nothing_held, no_item_held}
 use Rattle.tq_space.proofs.Shelves.{inserted_listed, inserted_seen, removed_listed, removed_seen, removed_item, room_less, room_set, room_at, position-passes, slab_less, grown_same, grown_set, seen_grown, listed_grown, room_grown, added_listed, added_seen, room_added}
+use Rattle.tq_space.proofs.Spares.{spares_less}
 use Rattle.tq_space.proofs.shelf.Shelf.insert.Goals as goal
 
 pub put_key-requires-clause-within : goal.put_key-requires-clause-within
@@ -41,6 +42,7 @@ invariant_of-self c =
       entry_room = omega (arith, c.insert_reserved-key.ensures.len, c.insert_reserved-key.ensures.capacity, c.self.invariant.entry_room, c.requires.room, ready);
       key_room = room_set (c.self.inside.ready - 1) queues at q' (omega (arith, c.put_key.ensures.len, c.put_key.ensures.capacity, room, c.requires.room, ready)) (room_less c.self.inside.ready (c.self.inside.ready - 1) queues (omega arith) c.self.invariant.key_room);
       queue_room = omega (arith, c.self.invariant.queue_room);
+      spare = spares_less c.self.inside.ready (c.self.inside.ready - 1) c.self.inside.spare (omega arith) c.self.invariant.spare;
     }
 
 pub unreachable-requires : goal.unreachable-requires

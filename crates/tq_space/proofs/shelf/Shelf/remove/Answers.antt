@@ -70,6 +70,7 @@ invariant_of-self c =
       entry_room = omega (arith, less, c.try_remove.ensures.capacity, c.self.invariant.entry_room);
       key_room = room_set c.self.inside.ready queues at q' (omega (arith, c.remove-key.ensures.len, c.remove-key.ensures.capacity, room)) c.self.invariant.key_room;
       queue_room = c.self.invariant.queue_room;
+      spare = c.self.invariant.spare;
     }
 
 pub returns-clause-queues : goal.returns-clause-queues

@@ -20,13 +20,13 @@ use Rattle.tq_space.specs.declared.shelf.Named.{Named}
 use Rattle.tq_space.specs.declared.plans.Refusal.TheVariants.{Refused}
 use Rattle.tq_space.specs.State.{ShelfValue, SpaceState}
 use Rattle.tq_space.specs.Kept.{held_of}
-use Rattle.tq_space.specs.Plain.{HasNoExpirations, CanMove, CanMoveBy, IsEnough, ready_after}
+use Rattle.tq_space.specs.Plain.{HasNoExpirations, CanInsert}
 use Rattle.tq_space.specs.Planned.{MeetsStep, IsPlanOf}
 use Rattle.tq_space.specs.NewEntry.{plain_item}
 use Rattle.tq_space.specs.Reads.{indexed_named, HasDistinctIndices}
 use Rattle.tq_space.specs.Reading.{named_of, answer_in}
 use Rattle.tq_space.proofs.Counts.{total, total_inserted, total_removed, total_added, removed_nothing, length_of, length_more, length_less, pages_more, pages_less}
-use Rattle.tq_space.proofs.Enough.{enough_more, enough_first, enough_rest, last_first, none_of, some_of}
+use Rattle.tq_space.proofs.Taken.{last_first, none_of, some_of}
 use Rattle.tq_space.proofs.Steps.{enqueue_refused, refused_badly, refused_room, enqueue_planned, dequeue_is, dequeue_refusal_is, dequeue_refused, dequeue_planned}
 use Rattle.tq_space.proofs.space.Space.insert.Goals as goal
 
@@ -36,16 +36,16 @@ invariant_of-self c =
     let messages : c.self.inside.messages ≡ total length_of qs = c.self.invariant.messages in
     let pages : c.self.inside.pages ≡ total queue_pages qs = c.self.invariant.pages in
     let entry = c.args.entry in
-    let can : CanMove (Insert entry) (held_of c.self.inside) = subst (λ (s : SpaceState). CanMove (Insert entry) s.held) (sym c.self.view_is) c.requires.can in
-    let more : total length_of (item_inserted entry.queue (item_of entry) qs) ≡ total length_of qs + 1 = total_inserted length_of 1 (item_of entry) (length_more (item_of entry)) entry.queue qs can.1 in
+    let can : CanInsert entry (held_of c.self.inside) = subst (λ (s : SpaceState). CanInsert entry s.held) (sym c.self.view_is) c.requires.can in
+    let more : total length_of (item_inserted entry.queue (item_of entry) qs) ≡ total length_of qs + 1 = total_inserted length_of 1 (item_of entry) (length_more (item_of entry)) entry.queue qs can.there in
     let wide : total queue_pages (item_inserted entry.queue (item_of entry) qs) ≡ total queue_pages qs + pages_at entry.message.qos (length entry.message.body) =
-    total_inserted queue_pages (item_pages (item_of entry)) (item_of entry) (pages_more (item_of entry)) entry.queue qs can.1 in
+    total_inserted queue_pages (item_pages (item_of entry)) (item_of entry) (pages_more (item_of entry)) entry.queue qs can.there in
     let now_more : total length_of c.insert.new.self.queues ≡ total length_of (item_inserted entry.queue (item_of entry) qs) = ap (λ (l : List IndexedQueue). total length_of l) c.insert.ensures.queues in
     let now_wide : total queue_pages c.insert.new.self.queues ≡ total queue_pages (item_inserted entry.queue (item_of entry) qs) = ap (λ (l : List IndexedQueue). total queue_pages l) c.insert.ensures.queues in
     let new_messages : c.self.inside.messages + 1 ≡ total length_of c.insert.new.self.queues = omega (arith, messages, more, now_more) in
     let new_pages : c.self.inside.pages + c.entry_pages-pages.result ≡ total queue_pages c.insert.new.self.queues = omega (arith, pages, wide, now_wide, c.entry_pages-pages.ensures) in
-    let fits : total length_of qs + 1 ≤ c.self.inside.limits.messages = can.2 in
-    let fits' : total queue_pages qs + pages_at entry.message.qos (length entry.message.body) ≤ c.self.inside.limits.pages = can.3 in
+    let fits : total length_of qs + 1 ≤ c.self.inside.limits.messages = can.messages in
+    let fits' : total queue_pages qs + pages_at entry.message.qos (length entry.message.body) ≤ c.self.inside.limits.pages = can.pages in
     record {
       messages = new_messages;
       pages = new_pages;

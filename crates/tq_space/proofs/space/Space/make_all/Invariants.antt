@@ -1,4 +1,4 @@
-use Rattle.std.proofs.Common.{◌≡◌, ℕ, ◌+◌, ◌-◌, ◌<◌, ◌≤◌, Bool, true, false, List, [], ◌∷◌, ◌++◌, map, length, get_or, drop, reverse, refl, sym, ap, ◌∙◌, subst, arith, Option, Some, None, Ok, Err, option_map}
+use Rattle.std.proofs.Common.{◌≡◌, ℕ, ◌+◌, ◌-◌, ◌<◌, ◌≤◌, Bool, true, false, List, [], ◌∷◌, ◌++◌, map, length, get_or, drop, reverse, refl, sym, ap, ◌∙◌, subst, arith, Option, Some, None, Ok, Err, option_map, vec_len}
 use Rattle.std.specs.Prelude.{is_some, option_copied, option_to_list, if◌then◌else◌}
 use Rattle.std.specs.List.{find, list_any, sum_by}
 use Rattle.std.proofs.lemmas.Result.{on_ok_weaker}
@@ -20,20 +20,20 @@ use Rattle.tq_space.specs.declared.shelf.Named.{Named}
 use Rattle.tq_space.specs.declared.plans.Refusal.TheVariants.{Refused}
 use Rattle.tq_space.specs.State.{ShelfValue, SpaceState}
 use Rattle.tq_space.specs.Kept.{held_of}
-use Rattle.tq_space.specs.Plain.{HasNoExpirations, CanMove, CanMoveBy, IsEnough, ready_after}
+use Rattle.tq_space.specs.Plain.{HasNoExpirations, CanMove, CanMoveBy}
 use Rattle.tq_space.specs.Planned.{MeetsStep, IsPlanOf}
 use Rattle.tq_space.specs.NewEntry.{plain_item}
 use Rattle.tq_space.specs.Reads.{indexed_named, HasDistinctIndices}
 use Rattle.tq_space.specs.Reading.{named_of, answer_in}
 use Rattle.tq_space.proofs.Counts.{total, total_inserted, total_removed, total_added, removed_nothing, length_of, length_more, length_less, pages_more, pages_less}
-use Rattle.tq_space.proofs.Enough.{enough_more, enough_first, enough_rest, last_first, none_of, some_of}
+use Rattle.tq_space.proofs.Taken.{last_first, none_of, some_of}
 use Rattle.tq_space.proofs.Steps.{enqueue_refused, refused_badly, refused_room, enqueue_planned, dequeue_is, dequeue_refusal_is, dequeue_refused, dequeue_planned}
 use Rattle.tq_space.proofs.space.Space.make_all.Given as goal
 
 abbrev pub invariant-loop-item : goal.invariant-loop-item
 invariant-loop-item l =
     (moved_by (reverse l.left.items) l.self.held ≡ moved_by l.fn.moves l.fn.self.held)
-    × CanMoveBy (reverse l.left.items) l.self.held × IsEnough l.self.ready (reverse l.left.items)
+    × CanMoveBy (reverse l.left.items) l.self.held × (vec_len l.left ≤ l.self.ready)
 
 abbrev pub decreases-loop-item : goal.decreases-loop-item
 decreases-loop-item l = goal.left-loop-item l

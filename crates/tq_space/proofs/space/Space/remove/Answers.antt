@@ -20,13 +20,13 @@ use Rattle.tq_space.specs.declared.shelf.Named.{Named}
 use Rattle.tq_space.specs.declared.plans.Refusal.TheVariants.{Refused}
 use Rattle.tq_space.specs.State.{ShelfValue, SpaceState}
 use Rattle.tq_space.specs.Kept.{held_of}
-use Rattle.tq_space.specs.Plain.{HasNoExpirations, CanMove, CanMoveBy, IsEnough, ready_after}
+use Rattle.tq_space.specs.Plain.{HasNoExpirations, CanMove, CanMoveBy}
 use Rattle.tq_space.specs.Planned.{MeetsStep, IsPlanOf}
 use Rattle.tq_space.specs.NewEntry.{plain_item}
 use Rattle.tq_space.specs.Reads.{indexed_named, HasDistinctIndices}
 use Rattle.tq_space.specs.Reading.{named_of, answer_in}
 use Rattle.tq_space.proofs.Counts.{total, total_inserted, total_removed, total_added, removed_nothing, length_of, length_more, length_less, pages_more, pages_less}
-use Rattle.tq_space.proofs.Enough.{enough_more, enough_first, enough_rest, last_first, none_of, some_of}
+use Rattle.tq_space.proofs.Taken.{last_first, none_of, some_of}
 use Rattle.tq_space.proofs.Steps.{enqueue_refused, refused_badly, refused_room, enqueue_planned, dequeue_is, dequeue_refusal_is, dequeue_refused, dequeue_planned}
 use Rattle.tq_space.proofs.space.Space.remove.Goals as goal
 

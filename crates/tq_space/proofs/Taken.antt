@@ -1,0 +1,14 @@
+-- Lists that are taken from their end, and values that may be there.
+use Rattle.std.proofs.Common.{◌≡◌, List, [], ◌∷◌, ◌++◌, refl, Option, Some, None, option_map, reverse, ap, ◌∙◌}
+use Rattle.std.proofs.lemmas.List.{reverse-append}
+
+pub last_first : {X : Type 0} (xs ys : List X) (x : X) → ys ≡ xs ++ x ∷ [] → reverse ys ≡ x ∷ reverse xs
+last_first xs ys x same = ap reverse same ∙ reverse-append xs (x ∷ [])
+
+pub none_of : {X Y : Type 0} (f : X → Y) (o : Option X) → option_map f o ≡ None → o ≡ None
+none_of f None h = refl
+none_of f (Some x) h = cc
+
+pub some_of : {X Y : Type 0} (f : X → Y) (o : Option X) (y : Y) → option_map f o ≡ Some y → (x : X) × (o ≡ Some x) × (f x ≡ y)
+some_of f None y h = cc
+some_of f (Some x) y h = (x, refl, cc)

@@ -1,0 +1,20 @@
+use Rattle.std.proofs.Common.{◌≡◌, true, List, refl, sym, ap, ◌∙◌, subst, Option, Some, None, option_map}
+use Rattle.std.specs.List.{list_any}
+use Rattle.tq_model.specs.Space.{Item}
+use Rattle.tq_model.specs.Moves.{IndexedQueue, item_of, item_with_id, item_replaced, has_index}
+use Rattle.tq_space.proofs.Counts.{any_removed, removed_nothing}
+use Rattle.tq_space.proofs.shelf.Shelf.replace.Goals as goal
+
+pub insert-requires-clause-there : goal.insert-requires-clause-there
+insert-requires-clause-there c =
+    let change = c.args.change.now in
+    let queues = c.args.self.now.queues in
+    (λ i. list_any (has_index (c.changed_entry.ensures.queue i)) (c.remove.ensures.queues i))
+    ∙ any_removed change.queue change.id queues ∙ c.requires.there
+
+pub returns-in_default-clause-queues : goal.returns-in_default-clause-queues
+returns-in_default-clause-queues c =
+    let change = c.args.change.now in
+    let queues = c.args.self.now.queues in
+    let none : item_with_id change.id queues ≡ None = sym c.remove.ensures.entry ∙ ap (option_map item_of) c.in_default.is in
+    c.remove.ensures.queues ∙ removed_nothing change.id queues none ∙ ap (λ (o : Option Item). item_replaced change o queues) (sym none)
