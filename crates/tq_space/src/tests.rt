@@ -356,7 +356,14 @@ fn a_hundred(rt: HostRuntime) -> Result<(), Fail> {
     let mut space = Space::new(alloc, &shape(300, 128), 1, 8);
     with_queue(alloc, &mut space, name, order)?;
     for number in 0..100u32 {
-        enqueues(&rt, alloc, &mut space, name, (b"x", number), granted(number))?;
+        enqueues(
+            &rt,
+            alloc,
+            &mut space,
+            name,
+            (b"x", number),
+            granted(number),
+        )?;
     }
     for number in 0..100u32 {
         dequeues(&rt, alloc, &mut space, name, (b"x", number))?;
@@ -376,7 +383,11 @@ fn replaced(
     let order = Order::new(&[], Last::Fifo)?;
     let mut space = Space::new(alloc, shape, 1, 8);
     with_queue(alloc, &mut space, a, order)?;
-    make(alloc, &mut space, SpaceMove::PutQueue(1, definition(b, order)))?;
+    make(
+        alloc,
+        &mut space,
+        SpaceMove::PutQueue(1, definition(b, order)),
+    )?;
     enqueues(rt, alloc, &mut space, a, (b"x", 0), granted(0))?;
     enqueues(rt, alloc, &mut space, a, (b"y", 1), granted(1))?;
     replace(rt, alloc, &mut space, change(0, 0, 9))?;

@@ -9,10 +9,11 @@ loop-alloc-preserved c =
     let keys = c.in_ok-with_capacity.field-0 in
     let made = c.in_ok-with_capacity.ensures in
     let pushed = c.in_ok-push.ensures in
+    let items : c.push.new.self.items ≡ c.loop-alloc.spare.items ++ keys ∷ [] = pushed.items in
     let new : IsSpare c.args.more keys = record { empty = made.items; room = omega (arith, made.len, made.capacity) } in
     record {
-      kept = λ n le has. spares_more n c.loop-alloc.spare c.push.new.self keys pushed.items pushed.len (spare_less c.args.more n keys le new) (c.loop-alloc.invariant.kept n le has);
-      added = λ all. subst (All (IsSpare c.args.more)) (sym pushed.items) (all_more c.args.more c.loop-alloc.spare.items keys (c.loop-alloc.invariant.added all) new);
+      kept = λ n le has. spares_more n c.loop-alloc.spare c.push.new.self keys items pushed.len (spare_less c.args.more n keys le new) (c.loop-alloc.invariant.kept n le has);
+      added = λ all. subst (All (IsSpare c.args.more)) (sym items) (all_more c.args.more c.loop-alloc.spare.items keys (c.loop-alloc.invariant.added all) new);
     }
 
 pub returns-in_err-push-clause-kept : goal.returns-in_err-push-clause-kept
