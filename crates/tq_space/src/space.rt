@@ -3,7 +3,7 @@ ghost use Rattle.tq_model.specs.Space.{new_space, body_length};
 ghost use Rattle.tq_model.specs.Moves.{item_of, space_of, purged_of, moved, moved_by, has_index, item_with_id};
 ghost use Rattle.std.specs.List.{find, list_any};
 ghost use Rattle.tq_space.specs.Reads.{indexed_named};
-ghost use Rattle.tq_model.specs.Room.{pages_at, message_rooms, first_lacking};
+ghost use Rattle.tq_model.specs.Room.{pages_at, messages_held, pages_held, message_rooms, first_lacking};
 ghost use Rattle.tq_model.specs.EnqueueStep.{quality, next_id, enqueue_step, enqueue_refusal};
 ghost use Rattle.tq_model.specs.DequeueStep.{dequeue_step, dequeue_refusal, delivered, content_bytes};
 ghost use Rattle.tq_space.specs.Plain.{IsPlainEnqueue, IsPlainDequeue, IsPlainEntry, CanInsert, CanReplace, CanDrop, CanMove, CanMoveBy};
@@ -387,6 +387,8 @@ impl Space {
         requires ready { 1 ≤ self.old.ready }
         requires can { CanReplace change.now self.old.held }
         ensures held { self.new.held ≡ moved (SpaceMove.Replace change.now) self.old.held }
+        ensures messages { messages_held (space_of self.new.held) ≡ messages_held (space_of self.old.held) }
+        ensures pages { pages_held (space_of self.new.held) ≡ pages_held (space_of self.old.held) }
         ensures ready { self.old.ready ≤ self.new.ready + 1 }
     {
         self.shelf.replace(change);
