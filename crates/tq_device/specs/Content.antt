@@ -1,43 +1,79 @@
--- What a device 0 holds, as its reading says.
-use Rattle.std.specs.Prelude.{◌≡◌, ◌⊎◌, ◌<◌, ◌≤◌, ◌+◌, ℕ, List, length, get_or}
-use Rattle.tq_model.specs.Step.{new_volume}
-use Rattle.tq_model.specs.Reading.{Content, Blank, Holds, Damaged, reading}
+-- What a device 0 holds outside its space's own pages, as its reading says.
+use Rattle.std.specs.Prelude.{◌≡◌, ◌⊎◌, ◌<◌, ◌≤◌, ◌+◌, ◌-◌, ◌%◌, ℕ, List, length, get_or, true, false, Option, Some, None, option_map}
+use Rattle.tq_model.specs.Reading as read
+use Rattle.tq_model.specs.Reading.{DevicePart, device_part, device_tests, hold_all}
+use Rattle.tq_device.specs.declared.content.NamedSpace.{NamedSpace}
 use Rattle.tq_device.specs.declared.content.DeviceContent.{DeviceContent}
 use Rattle.tq_device.specs.declared.content.Found.{Found}
 use Rattle.tq_device.specs.declared.content.Found.TheVariants as found
 
-abbrev pub content_view : DeviceContent → Content
-content_view d = record { site = d.site; volume = record { clusters = d.clusters; next_space = d.next_space }; epoch = d.epoch }
+abbrev pub named_view : NamedSpace → read.NamedSpace
+named_view n = record { name = n.name; ordinal = n.ordinal; pages = n.pages }
 
--- an image holds this content, and its journal is the one of this selector
+abbrev pub part_of : DeviceContent → DevicePart
+part_of d = record { site = d.site; clusters = d.clusters; next_space = d.next_space; epoch = d.epoch; named = option_map named_view d.named }
+
+-- an image holds this content, and its journal and its table are the ones of these selectors
 pub record Stands (d : DeviceContent) (image : List ℕ) : Type 0 where
-  pub reading : reading 0 image ≡ Holds (content_view d)
+  pub size : 131072 ≤ length image
+  pub tests : hold_all (device_tests 0 image) ≡ true
+  pub part : device_part image ≡ part_of d
   pub journal : get_or image 513 0 ≡ d.journal
+  pub table : get_or image 512 0 ≡ d.table
 
 -- what is found on an image
 abbrev pub IsFoundOn : Found → List ℕ → Type 0
-IsFoundOn found.Blank image = reading 0 image ≡ Blank
+IsFoundOn found.Blank image = length image < 131072
 IsFoundOn (found.Holds d) image = Stands d image
-IsFoundOn found.Damaged image = reading 0 image ≡ Damaged
+IsFoundOn found.Damaged image = (131072 ≤ length image) × (hold_all (device_tests 0 image) ≡ false)
+
+-- a space that is named lies within the limits of ordinals and pages
+abbrev pub IsWithin : Option NamedSpace → Type 0
+IsWithin None = Unit {0}
+IsWithin (Some n) = (n.ordinal ≤ 268435455) × (1 ≤ n.pages) × (n.pages ≤ 262016)
+
+abbrev pub IsFoundWithin : Found → Type 0
+IsFoundWithin found.Blank = Unit {0}
+IsFoundWithin (found.Holds d) = IsWithin d.named
+IsFoundWithin found.Damaged = Unit {0}
 
 -- a device that was just made
-abbrev pub new_content : ℕ → ℕ → Content
-new_content site clusters = record { site = site; volume = new_volume clusters; epoch = 1 }
+abbrev pub new_content : ℕ → ℕ → DeviceContent
+new_content site clusters = record { site = site; clusters = clusters; next_space = 1; epoch = 1; journal = 0; table = 0; named = None }
 
 abbrev pub IsBlankOrNew : ℕ → ℕ → List ℕ → Type 0
-IsBlankOrNew site clusters image = (reading 0 image ≡ Blank) ⊎ (reading 0 image ≡ Holds (new_content site clusters))
+IsBlankOrNew site clusters image = (length image < 131072) ⊎ Stands (new_content site clusters) image
 
--- the same with the next epoch
-abbrev pub with_raised_epoch : Content → Content
-with_raised_epoch c = record c { epoch = c.epoch + 1 }
+-- the same with the next epoch, its journal in the other area
+abbrev pub raised : DeviceContent → DeviceContent
+raised d = record d { epoch = d.epoch + 1; journal = 1 - d.journal % 2 }
 
-abbrev pub IsOldOrRaised : Content → List ℕ → Type 0
-IsOldOrRaised c image = (reading 0 image ≡ Holds c) ⊎ (reading 0 image ≡ Holds (with_raised_epoch c))
+-- The old content or the next one. A stop may leave any byte in the place of a selector that is written, and it still
+-- selects one of the two areas.
+abbrev pub IsOldOrRaised : DeviceContent → List ℕ → Type 0
+IsOldOrRaised d image = Stands (record d { journal = get_or image 513 0 }) image ⊎ Stands (record (raised d) { journal = get_or image 513 0 }) image
+
+-- the same with a space of this name and so many pages, its table in the other area
+abbrev pub entered : DeviceContent → List ℕ → ℕ → DeviceContent
+entered d name pages = record d { next_space = d.next_space + 1; table = 1 - d.table % 2; named = Some (record { name = name; ordinal = d.next_space; pages = pages }) }
+
+abbrev pub IsOldOrEntered : DeviceContent → List ℕ × ℕ → List ℕ → Type 0
+IsOldOrEntered d n image = Stands (record d { table = get_or image 512 0 }) image ⊎ Stands (record (entered d n.0 n.1) { table = get_or image 512 0 }) image
 
 -- the same but for the site journal: its two areas and its selector byte
 pub record IsSameButJournal (old new : List ℕ) : Type 0 where
   pub bytes : (i : ℕ) → (i < 513) ⊎ (513 < i) → (i < 82944) ⊎ (115712 ≤ i) → get_or new i 0 ≡ get_or old i 0
   pub size : length new ≡ length old
+
+-- the same but for the device table: its two areas and its selector byte
+pub record IsSameButTable (old new : List ℕ) : Type 0 where
+  pub bytes : (i : ℕ) → (i < 512) ⊎ (512 < i) → (i < 1024) ⊎ (82944 ≤ i) → get_or new i 0 ≡ get_or old i 0
+  pub size : length new ≡ length old
+
+-- the same, with more bytes behind it or none
+pub record IsLonger (old new : List ℕ) : Type 0 where
+  pub longer : length old ≤ length new
+  pub bytes : (i : ℕ) → i < length old → get_or new i 0 ≡ get_or old i 0
 
 -- no more is said of how an image came about
 abbrev pub IsAnyStep : List ℕ → List ℕ → Type 0

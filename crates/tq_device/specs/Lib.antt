@@ -1,4 +1,6 @@
 pub mod Content
+pub mod Entered
+pub mod Judged
 pub mod Made
 pub mod Parts
 pub mod Raised

@@ -1,7 +1,7 @@
 -- What a device holds while it is made.
-use Rattle.std.specs.Prelude.{◌≡◌, ◌<◌, ◌+◌, ◌-◌, ◌*◌, ℕ, List, length, get_or, map, codes, nat_lt, if◌then◌else◌}
-use Rattle.tq_model.specs.Reading.{RawHeader, RawTable, RawJournal, raw_header, raw_table, raw_journal, table_a, journal_a, below, Holds, reading}
-use Rattle.tq_device.specs.Content.{new_content}
+use Rattle.std.specs.Prelude.{◌≡◌, ◌<◌, ◌+◌, ◌-◌, ◌*◌, ℕ, List, length, get_or, None, nat_lt, if◌then◌else◌}
+use Rattle.tq_model.specs.Reading.{table_a, journal_a}
+use Rattle.tq_device.specs.Parts.{HasHeader, IsTable, HasJournal}
 
 -- shorter than a device that is not blank
 abbrev pub IsShort : List ℕ → Type 0
@@ -22,25 +22,11 @@ pub record IsPaged (number : ℕ) (start old new : List ℕ) : Type 0 where
   pub before : (i : ℕ) → i < 1024 * number → get_or new i 0 ≡ get_or old i 0
   pub size : length new ≡ length old
 
-abbrev pub new_header : ℕ → ℕ → RawHeader
-new_header site clusters = record { mark = codes "TQDEV001"; device = 0; site = site; clusters = clusters; table = table_a; journal = journal_a }
-
-abbrev pub new_table : RawTable
-new_table = record { mark = codes "TQTB"; next = 1; used = map (λ entry. 0) (below 16) }
-
--- a journal of this epoch, with no decision and an empty log
-abbrev pub new_journal : ℕ → RawJournal
-new_journal epoch = record { mark = codes "TQSJ"; epoch = epoch; decided = 0; decision_epoch = 0; gate = 0 }
-
 -- all of a new device but its last byte
 pub record IsLaidOut (site clusters : ℕ) (image : List ℕ) : Type 0 where
   pub size : length image ≡ 131071
-  pub header : raw_header image ≡ new_header site clusters
-  pub selector : get_or image 513 0 ≡ 0
-  pub table : raw_table table_a image ≡ new_table
-  pub journal : raw_journal journal_a image ≡ new_journal 1
-
--- a device that was just made
-pub record IsNew (site clusters : ℕ) (image : List ℕ) : Type 0 where
-  pub reading : reading 0 image ≡ Holds (new_content site clusters)
-  pub selector : get_or image 513 0 ≡ 0
+  pub header : HasHeader site clusters image
+  pub journal_chosen : get_or image 513 0 ≡ 0
+  pub table_chosen : get_or image 512 0 ≡ 0
+  pub table : IsTable table_a 1 None image
+  pub journal : HasJournal journal_a 1 image

@@ -1,7 +1,8 @@
-ghost use Rattle.std.specs.Prelude.{◌≡◌, ◌+◌, ◌<◌, ◌≤◌, ℕ, length, get_or, codes};
+ghost use Rattle.std.specs.Prelude.{◌≡◌, ◌+◌, ◌≤◌, ℕ, length, get_or, codes};
 ghost use Rattle.tq_field.specs.Places.{number_at, run_at};
+ghost use Rattle.tq_host.specs.Calls.{IsSameOutside, StandsAt};
 
-use tq_field::{get_u32, put_u32};
+use tq_field::{get_u16, get_u32, put_u16, put_u32};
 
 /// So many zero bytes.
 pub(crate) fn zeros<const N: usize>() -> [u8; N]
@@ -28,14 +29,39 @@ pub(crate) fn number(bytes: &[u8], at: usize) -> u32
     get_u32(bytes, at).unwrap_or(0)
 }
 
+/// The number in the 2 bytes from this place on, which has to have them.
+pub(crate) fn short(bytes: &[u8], at: usize) -> u16
+    requires { at + 2 ≤ length bytes.now }
+    ensures { result ≡ number_at at 2 bytes.now }
+{
+    get_u16(bytes, at).unwrap_or(0)
+}
+
 /// Writes the number into the 4 bytes from this place on, which has to have them.
 pub(crate) fn set_number(bytes: &mut [u8], at: usize, n: u32)
     requires { at + 4 ≤ length bytes.old }
     ensures number { number_at at 4 bytes.new ≡ n }
-    ensures runs_before { (i : ℕ) (k : ℕ) → i + k ≤ at → run_at i k bytes.new ≡ run_at i k bytes.old }
-    ensures bytes_before { (i : ℕ) → i < at → get_or bytes.new i 0 ≡ get_or bytes.old i 0 }
+    ensures outside { IsSameOutside at 4 bytes.old bytes.new }
 {
     let _fits = put_u32(bytes, at, n);
+}
+
+/// Writes the number into the 2 bytes from this place on, which has to have them.
+pub(crate) fn set_short(bytes: &mut [u8], at: usize, n: u16)
+    requires { at + 2 ≤ length bytes.old }
+    ensures number { number_at at 2 bytes.new ≡ n }
+    ensures outside { IsSameOutside at 2 bytes.old bytes.new }
+{
+    let _fits = put_u16(bytes, at, n);
+}
+
+/// Writes these bytes from this place on, where they have to end within the others.
+pub(crate) fn set_run(bytes: &mut [u8], at: usize, run: &[u8])
+    requires { at + length run.now ≤ length bytes.old }
+    ensures stands { StandsAt at run.now bytes.new }
+    ensures outside { IsSameOutside at (length run.now) bytes.old bytes.new }
+{
+    bytes[at..at + run.len()].copy_from_slice(run);
 }
 
 /// The first bytes of the first page of a device 0.

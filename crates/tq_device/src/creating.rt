@@ -2,9 +2,8 @@ ghost use Rattle.std.specs.Prelude.{◌≡◌, ◌<◌, ◌≤◌, ◌+◌, ◌*
 ghost use Rattle.tq_host.specs.View.{IsSettled};
 ghost use Rattle.tq_host.specs.Calls.{HasCause};
 ghost use Rattle.tq_host.specs.Within.{KeepsRest, Within};
-ghost use Rattle.tq_model.specs.Reading.{Blank, reading};
-ghost use Rattle.tq_device.specs.Content.{Stands, IsBlankOrNew, IsAnyStep, new_content, content_view};
-ghost use Rattle.tq_device.specs.Made.{IsShort, IsPaged, IsMadeTo, IsLaidOut, IsNew, made_byte};
+ghost use Rattle.tq_device.specs.Content.{Stands, IsBlankOrNew, IsAnyStep, new_content};
+ghost use Rattle.tq_device.specs.Made.{IsShort, IsPaged, IsMadeTo, IsLaidOut, made_byte};
 
 use crate::DeviceContent;
 use crate::bytes::{base_start, header_start, padded};
@@ -26,10 +25,10 @@ pub fn create<H: Host>(
     requires most { clusters ≤ 8192 }
     requires blank { H.tells.reads → length ((H.view host.old).reads dev) < 131072 }
 
-    ensures made { IfOk result (λ d. content_view d ≡ new_content site clusters) }
+    ensures made { IfOk result (λ d. d ≡ new_content site clusters) }
     ensures done { IfOk result (λ d. H.tells.reads → Stands d ((H.view host.new).reads dev)) }
     ensures settled { OnOk result (IsSettled dev (H.view host.new)) }
-    ensures stop { ((c : List ℕ) → (H.view host.old).may_leave dev c → reading 0 c ≡ Blank)
+    ensures stop { ((c : List ℕ) → (H.view host.old).may_leave dev c → length c < 131072)
         → Within dev IsAnyStep (IsBlankOrNew site clusters) (H.view host.old) (H.view host.new) }
     ensures rest { KeepsRest dev (H.view host.old) (H.view host.new) }
     ensures cause { HasCause (H.view host.old).faults (H.view host.new).faults result }
@@ -43,6 +42,8 @@ pub fn create<H: Host>(
         next_space: 1,
         epoch: 1,
         journal: 0,
+        table: 0,
+        named: None,
     })
 }
 
@@ -62,6 +63,9 @@ fn shorten<H: Host>(host: &mut H, dev: u8) -> Result<(), Failed>
 /// Writes all of a new device but its last byte.
 fn lay_out<H: Host>(host: &mut H, dev: u8, site: u32, clusters: u32) -> Result<(), Failed>
     requires dev { dev < 8 }
+    requires site { 1 ≤ site }
+    requires least { 5 ≤ clusters }
+    requires most { clusters ≤ 8192 }
     requires size { H.tells.reads → length ((H.view host.old).reads dev) ≡ 131071 }
 
     ensures done { OnOk result (H.tells.reads → IsLaidOut site clusters ((H.view host.new).reads dev)) }
@@ -148,10 +152,10 @@ fn write_page<H: Host>(host: &mut H, dev: u8, number: u64, start: &[u8]) -> Resu
 /// Makes a device that is laid out as long as one that is not blank.
 fn open<H: Host>(host: &mut H, dev: u8) -> Result<(), Failed>
     requires { dev < 8 }
-    ensures done { OnOk result (H.tells.reads → (site : ℕ) (clusters : ℕ) → 1 ≤ site → 5 ≤ clusters → clusters ≤ 8192 → IsLaidOut site clusters ((H.view host.old).reads dev)
-        → IsNew site clusters ((H.view host.new).reads dev)) }
+    ensures done { OnOk result (H.tells.reads → (site : ℕ) (clusters : ℕ) → IsLaidOut site clusters ((H.view host.old).reads dev)
+        → Stands (new_content site clusters) ((H.view host.new).reads dev)) }
     ensures settled { OnOk result (IsSettled dev (H.view host.new)) }
-    ensures stop { (site : ℕ) (clusters : ℕ) → 1 ≤ site → 5 ≤ clusters → clusters ≤ 8192 → ((c : List ℕ) → (H.view host.old).may_leave dev c → IsLaidOut site clusters c)
+    ensures stop { (site : ℕ) (clusters : ℕ) → ((c : List ℕ) → (H.view host.old).may_leave dev c → IsLaidOut site clusters c)
         → Within dev IsAnyStep (IsBlankOrNew site clusters) (H.view host.old) (H.view host.new) }
     ensures rest { KeepsRest dev (H.view host.old) (H.view host.new) }
     ensures cause { HasCause (H.view host.old).faults (H.view host.new).faults result }

@@ -1,12 +1,17 @@
-ghost use Rattle.std.specs.Prelude.{◌≡◌, ◌≤◌, ◌==◌, length, get_or};
+ghost use Rattle.std.specs.Prelude.{◌≡◌, ◌<◌, ◌==◌, length, get_or, drop, if◌then◌else◌, option_map};
 ghost use Rattle.std.specs.List.{list_all};
-ghost use Rattle.tq_model.specs.Reading.{raw_header, raw_table, raw_journal};
+ghost use Rattle.tq_field.specs.Places.{number_at};
+ghost use Rattle.tq_model.specs.Names.{is_name};
+ghost use Rattle.tq_model.specs.Reading.{raw_header, raw_entry, raw_table, raw_journal};
+ghost use Rattle.tq_device.specs.Content.{named_view, IsFoundWithin};
 ghost use Rattle.tq_device.specs.Parts as parts;
-ghost use Rattle.tq_device.specs.Parts.{reading_in, found_view, HasJournal};
+ghost use Rattle.tq_device.specs.Judged.{IsJudged, HasSelectors, space_named};
 
-use crate::bytes::number;
+use crate::bytes::{number, short};
 use crate::layout::OPEN_GATE;
-use crate::{DeviceContent, Found};
+use crate::{DeviceContent, Found, NamedSpace};
+use tq_model::name_in;
+use tq_types::Name;
 
 /// Whether the first page is that of a device 0.
 fn is_header(page: &[u8]) -> bool
@@ -19,12 +24,12 @@ fn is_header(page: &[u8]) -> bool
         && (5 <= number(page, 16) && number(page, 16) <= 8192)
 }
 
-/// Whether no entry of a device table is used.
-fn is_unused(table: &[u8]) -> bool
-    requires { length table.now ≡ 2592 }
-    ensures { result ≡ list_all (λ used. used == 0) (raw_table 0 table.now).used }
+/// Whether no entry of a device table but the first one is used.
+fn is_single(table: &[u8]) -> bool
+    requires { length table.now ≡ 2596 }
+    ensures { result ≡ list_all (λ used. used == 0) (drop 1 (raw_table 0 table.now).used) }
 {
-    for entry in 0..16 {
+    for entry in 1..16 {
         if table[32 + 160 * entry] != 0 {
             return false;
         }
@@ -32,14 +37,98 @@ fn is_unused(table: &[u8]) -> bool
     true
 }
 
-/// Whether a device table's base, up to its entries' end, is that of a table with no space.
-fn is_table(table: &[u8]) -> bool
-    requires { length table.now ≡ 2592 }
-    ensures { result ≡ parts.is_table (raw_table 0 table.now) }
+/// Whether these are the mark and the next ordinal of a device table.
+fn is_headed(table: &[u8]) -> bool
+    requires { length table.now ≡ 2596 }
+    ensures { result ≡ parts.is_headed (raw_table 0 table.now) }
 {
-    &table[..4] == b"TQTB".as_slice()
-        && (1 <= number(table, 4) && number(table, 4) <= 268_435_455)
-        && is_unused(table)
+    &table[..4] == b"TQTB".as_slice() && (1 <= number(table, 4) && number(table, 4) <= 268_435_455)
+}
+
+/// Whether a device table's base is one, of whose entries at most the first is used.
+fn is_base(table: &[u8]) -> bool
+    requires { length table.now ≡ 2596 }
+    ensures { result ≡ parts.is_base (raw_table 0 table.now) }
+{
+    is_headed(table) && (table[32] <= 1 && is_single(table))
+}
+
+/// The name in the first entry of a device table, where it is one.
+fn name_of(table: &[u8]) -> Option<Name>
+    requires { length table.now ≡ 2596 }
+    ensures { result ≡ (if is_name (raw_entry 0 table.now).name then Some (raw_entry 0 table.now).name else None) }
+{
+    let end = 34 + usize::from(table[33]);
+    name_in(&table[34..end])
+}
+
+/// The space in the first entry of a device table, where it is used and its name is one.
+fn named(table: &[u8]) -> Option<NamedSpace>
+    requires { length table.now ≡ 2596 }
+    ensures { option_map named_view result ≡ space_named (raw_table 0 table.now) }
+{
+    if table[32] != 1 {
+        return None;
+    }
+    let name = name_of(table)?;
+    Some(NamedSpace {
+        name,
+        ordinal: number(table, 164),
+        pages: number(table, 168),
+    })
+}
+
+/// Whether the ordinal and the pages of a device table's first entry are within their limits.
+fn is_numbered(table: &[u8]) -> bool
+    requires { length table.now ≡ 2596 }
+    ensures { result ≡ parts.is_numbered (number_at 4 4 table.now) (raw_entry 0 table.now) }
+{
+    (1 <= number(table, 164) && number(table, 164) < number(table, 4))
+        && (1 <= number(table, 168) && number(table, 168) <= 262_016)
+}
+
+/// Whether the clusters of a device table's first entry are as many as its pages take, and lie
+/// within a device with so many clusters and bytes.
+fn has_clusters(table: &[u8], clusters: u32, size: u64) -> bool
+    requires { length table.now ≡ 2596 }
+    ensures { result ≡ parts.has_clusters clusters size (raw_entry 0 table.now) }
+{
+    let count = u64::from(short(table, 2594));
+    count == (u64::from(number(table, 168)) + 31) / 32
+        && (4 + count <= u64::from(clusters) && 131_072 + 32_768 * count <= size)
+}
+
+/// Whether a device table's first entry has one extent, which begins behind the header's clusters.
+fn is_first(table: &[u8]) -> bool
+    requires { length table.now ≡ 2596 }
+    ensures { result ≡ parts.is_first (raw_entry 0 table.now) }
+{
+    number(table, 172) == 1 && short(table, 2592) == 4
+}
+
+/// Whether the numbers of a device table's first entry are those of a space within a device with so
+/// many clusters and bytes.
+fn is_placed(table: &[u8], clusters: u32, size: u64) -> bool
+    requires { length table.now ≡ 2596 }
+    ensures { result ≡ parts.is_placed (number_at 4 4 table.now) clusters size (raw_entry 0 table.now) }
+{
+    is_numbered(table) && (has_clusters(table, clusters, size) && is_first(table))
+}
+
+/// Whether a device table's first entry is that of a space within such a device.
+fn is_entry(table: &[u8], clusters: u32, size: u64) -> bool
+    requires { length table.now ≡ 2596 }
+    ensures { result ≡ parts.is_entry (number_at 4 4 table.now) clusters size (raw_entry 0 table.now) }
+{
+    name_of(table).is_some() && is_placed(table, clusters, size)
+}
+
+/// Whether a device table's base, up to its first extent, is that of a table with no space or one.
+fn is_table(table: &[u8], clusters: u32, size: u64) -> bool
+    requires { length table.now ≡ 2596 }
+    ensures { result ≡ parts.is_table clusters size (raw_table 0 table.now) }
+{
+    is_base(table) && (table[32] != 1 || is_entry(table, clusters, size))
 }
 
 /// Whether a site journal's base and its log's first byte are those of a journal with no decision
@@ -54,15 +143,27 @@ fn is_journal(journal: &[u8]) -> bool
         && journal[1024] != OPEN_GATE
 }
 
-/// What a device holds whose parts are these.
-pub(crate) fn judge(header: &[u8], table: &[u8], journal: &[u8]) -> Found
+/// Whether these are the parts of a device of so many bytes.
+fn is_device(header: &[u8], table: &[u8], journal: &[u8], size: u64) -> bool
     requires header { length header.now ≡ 1024 }
-    requires table { length table.now ≡ 2592 }
+    requires table { length table.now ≡ 2596 }
     requires journal { length journal.now ≡ 1025 }
-    ensures reading { found_view result ≡ reading_in (raw_header header.now) (raw_table 0 table.now) (raw_journal 0 journal.now) }
-    ensures selector { HasJournal (get_or header.now 513 0) result }
+    ensures { result ≡ parts.is_device size (raw_header header.now) (raw_table 0 table.now) (raw_journal 0 journal.now) }
 {
-    if !(is_header(header) && is_table(table) && is_journal(journal)) {
+    is_header(header) && (is_table(table, number(header, 16), size) && is_journal(journal))
+}
+
+/// What a device of so many bytes holds whose parts are these.
+pub(crate) fn judge(header: &[u8], table: &[u8], journal: &[u8], size: u64) -> Found
+    requires header { length header.now ≡ 1024 }
+    requires table { length table.now ≡ 2596 }
+    requires journal { length journal.now ≡ 1025 }
+    ensures judged { IsJudged size (raw_header header.now) (raw_table 0 table.now) (raw_journal 0 journal.now) result }
+    ensures within { IsFoundWithin result }
+    ensures selectors { HasSelectors header.now result }
+    ensures name_size { get_or table.now 33 0 < 256 }
+{
+    if !is_device(header, table, journal, size) {
         return Found::Damaged;
     }
     Found::Holds(DeviceContent {
@@ -71,5 +172,7 @@ pub(crate) fn judge(header: &[u8], table: &[u8], journal: &[u8]) -> Found
         next_space: number(table, 4),
         epoch: number(journal, 4),
         journal: header[513],
+        table: header[512],
+        named: named(table),
     })
 }

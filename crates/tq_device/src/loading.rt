@@ -1,7 +1,7 @@
 ghost use Rattle.std.specs.Prelude.{◌≡◌, ◌<◌, ◌≤◌, List, ℕ, IfOk, length};
 ghost use Rattle.tq_host.specs.Calls.{HasCause, IsStill};
 ghost use Rattle.tq_host.specs.Within.{KeepsRest, Within};
-ghost use Rattle.tq_device.specs.Content.{IsFoundOn, IsAny, IsSameImage};
+ghost use Rattle.tq_device.specs.Content.{IsFoundOn, IsFoundWithin, IsAny, IsSameImage};
 
 use crate::Found;
 use crate::bytes::zeros;
@@ -14,6 +14,7 @@ use tq_host::{Failed, Host};
 pub fn load<H: Host>(host: &mut H, dev: u8) -> Result<Found, Failed>
     requires { dev < 8 }
     ensures found { IfOk result (λ f. H.tells.reads → IsFoundOn f ((H.view host.old).reads dev)) }
+    ensures within { IfOk result IsFoundWithin }
     ensures still { IsStill (H.view host.old) (H.view host.new) }
     ensures stop { Within dev IsSameImage IsAny (H.view host.old) (H.view host.new) }
     ensures rest { KeepsRest dev (H.view host.old) (H.view host.new) }
@@ -23,14 +24,16 @@ pub fn load<H: Host>(host: &mut H, dev: u8) -> Result<Found, Failed>
     if length < HEADER_BYTES {
         return Ok(Found::Blank);
     }
-    load_parts(host, dev)
+    load_parts(host, dev, length)
 }
 
-/// The same of a device that is not blank.
-fn load_parts<H: Host>(host: &mut H, dev: u8) -> Result<Found, Failed>
+/// The same of a device that is not blank, with so many bytes.
+fn load_parts<H: Host>(host: &mut H, dev: u8, size: u64) -> Result<Found, Failed>
     requires dev { dev < 8 }
-    requires long { H.tells.reads → 131072 ≤ length ((H.view host.old).reads dev) }
+    requires long { 131072 ≤ size }
+    requires size { H.tells.reads → size ≡ length ((H.view host.old).reads dev) }
     ensures found { IfOk result (λ f. H.tells.reads → IsFoundOn f ((H.view host.old).reads dev)) }
+    ensures within { IfOk result IsFoundWithin }
     ensures still { IsStill (H.view host.old) (H.view host.new) }
     ensures stop { Within dev IsSameImage IsAny (H.view host.old) (H.view host.new) }
     ensures rest { KeepsRest dev (H.view host.old) (H.view host.new) }
@@ -38,9 +41,9 @@ fn load_parts<H: Host>(host: &mut H, dev: u8) -> Result<Found, Failed>
 {
     let mut header = zeros::<1024>();
     host.read_at(dev, 0, &mut header)?;
-    let mut table = zeros::<2592>();
+    let mut table = zeros::<2596>();
     host.read_at(dev, chosen(header[512], TABLE_A, TABLE_B), &mut table)?;
     let mut journal = zeros::<1025>();
     host.read_at(dev, chosen(header[513], JOURNAL_A, JOURNAL_B), &mut journal)?;
-    Ok(judge(&header, &table, &journal))
+    Ok(judge(&header, &table, &journal, size))
 }

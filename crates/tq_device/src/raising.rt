@@ -2,12 +2,13 @@ ghost use Rattle.std.specs.Prelude.{◌≡◌, ◌<◌, ◌≤◌, List, ℕ, If
 ghost use Rattle.tq_host.specs.View.{IsSettled};
 ghost use Rattle.tq_host.specs.Calls.{HasCause};
 ghost use Rattle.tq_host.specs.Within.{KeepsRest, Within};
-ghost use Rattle.tq_device.specs.Content.{Stands, IsOldOrRaised, IsSameButJournal, content_view, with_raised_epoch};
+ghost use Rattle.tq_device.specs.Content.{Stands, IsOldOrRaised, IsSameButJournal, raised};
 ghost use Rattle.tq_device.specs.Raised.{IsFilled};
 
 use crate::DeviceContent;
 use crate::bytes::{base_start, padded};
 use crate::layout::{JOURNAL_A, JOURNAL_B, other};
+use crate::writing::write_synced;
 use tq_host::{Failed, Host};
 
 /// Raises the epoch, below 2^32 - 1, of a device that holds this content. A stop inside leaves the
@@ -22,12 +23,12 @@ pub fn raise_epoch<H: Host>(
     requires below { content.now.epoch < 4294967295 }
     requires holds { H.tells.reads → Stands content.now ((H.view host.old).reads dev) }
 
-    ensures raised { IfOk result (λ d. content_view d ≡ with_raised_epoch (content_view content.now)) }
+    ensures raised { IfOk result (λ d. d ≡ raised content.now) }
     ensures done { IfOk result (λ d. H.tells.reads → Stands d ((H.view host.new).reads dev)) }
     ensures kept { OnOk result (H.tells.reads → IsSameButJournal ((H.view host.old).reads dev) ((H.view host.new).reads dev)) }
     ensures settled { OnOk result (IsSettled dev (H.view host.new)) }
     ensures stop { ((c : List ℕ) → (H.view host.old).may_leave dev c → Stands content.now c)
-        → Within dev IsSameButJournal (IsOldOrRaised (content_view content.now)) (H.view host.old) (H.view host.new) }
+        → Within dev IsSameButJournal (IsOldOrRaised content.now) (H.view host.old) (H.view host.new) }
     ensures rest { KeepsRest dev (H.view host.old) (H.view host.new) }
     ensures cause { HasCause (H.view host.old).faults (H.view host.new).faults result }
 {
@@ -50,8 +51,13 @@ fn fill<H: Host>(host: &mut H, dev: u8, content: &DeviceContent) -> Result<(), F
     ensures cause { HasCause (H.view host.old).faults (H.view host.new).faults result }
 {
     let base = padded::<1025>(&base_start(b"TQSJ", content.epoch + 1));
-    host.write_at(dev, other(content.journal, JOURNAL_A, JOURNAL_B), &base)?;
-    host.sync(dev)
+    write_synced(
+        host,
+        dev,
+        other(content.journal, JOURNAL_A, JOURNAL_B),
+        &base,
+    )?;
+    Ok(())
 }
 
 /// Chooses the area that was filled.
@@ -60,18 +66,17 @@ fn choose<H: Host>(host: &mut H, dev: u8, content: &DeviceContent) -> Result<Dev
     requires below { content.now.epoch < 4294967295 }
     requires holds { H.tells.reads → IsFilled content.now ((H.view host.old).reads dev) }
 
-    ensures raised { IfOk result (λ d. content_view d ≡ with_raised_epoch (content_view content.now)) }
+    ensures raised { IfOk result (λ d. d ≡ raised content.now) }
     ensures done { IfOk result (λ d. H.tells.reads → Stands d ((H.view host.new).reads dev)) }
     ensures kept { OnOk result (H.tells.reads → IsSameButJournal ((H.view host.old).reads dev) ((H.view host.new).reads dev)) }
     ensures settled { OnOk result (IsSettled dev (H.view host.new)) }
     ensures stop { ((c : List ℕ) → (H.view host.old).may_leave dev c → IsFilled content.now c)
-        → Within dev IsSameButJournal (IsOldOrRaised (content_view content.now)) (H.view host.old) (H.view host.new) }
+        → Within dev IsSameButJournal (IsOldOrRaised content.now) (H.view host.old) (H.view host.new) }
     ensures rest { KeepsRest dev (H.view host.old) (H.view host.new) }
     ensures cause { HasCause (H.view host.old).faults (H.view host.new).faults result }
 {
     let journal = 1 - content.journal % 2;
-    host.write_at(dev, 513, &[journal])?;
-    host.sync(dev)?;
+    write_synced(host, dev, 513, &[journal])?;
     Ok(DeviceContent {
         epoch: content.epoch + 1,
         journal,

@@ -1,5 +1,6 @@
 -- What writes behind a log and on its closed gate leave.
-use Rattle.std.proofs.Common.{◌≡◌, ◌⊎◌, inl, inr, ⊎_elim, ◌<◌, ◌≤◌, ℕ, ◌+◌, ◌^◌, List, [], ◌∷◌, ◌++◌, length, get_or, Result, Some, refl, sym, ◌∙◌, ap, subst, arith}
+use Rattle.std.proofs.Common.{◌≡◌, ◌⊎◌, inl, inr, ⊎_elim, ◌<◌, ◌≤◌, ℕ, ◌+◌, ◌^◌, List, [], ◌∷◌, ◌++◌, length, get_or, Result, Option, None, Some, refl, sym, ◌∙◌, ap, subst, arith}
+use Rattle.std.specs.Option.{option_map}
 use Rattle.std.proofs.lemmas.Bool.{cases_eq}
 use Rattle.tq_host.specs.declared.host.Failed.{Failed}
 use Rattle.tq_host.specs.View.{Told, View, IsLawful, IsSettled}
@@ -16,7 +17,7 @@ use Rattle.tq_gate.specs.declared.log.GateLog.{GateLog}
 use Rattle.tq_gate.specs.Layout.{log_length, layout_end, log_address, IsPlaced}
 use Rattle.tq_gate.specs.Reading.{Content, content, log_in, IsRecord}
 use Rattle.tq_field.specs.GatedLog.{end_of}
-use Rattle.tq_gate.specs.Log.{IsOpen, IsLog, AreLog, added, IsSameButIn, IsSameButLog, IsStagedIn, IsStaged, AreStagedOver, IsOldOrNew}
+use Rattle.tq_gate.specs.Log.{IsOpen, IsLog, AreLog, HaveLog, added, IsSameButIn, IsSameButLog, IsStagedIn, IsStaged, AreStagedOver, IsKeptLog, IsOpening, IsOldOrNew}
 use Rattle.tq_gate.proofs.Stretches.{run_at-is}
 use Rattle.tq_gate.proofs.Readings.{end_of-push, records_push}
 use Rattle.tq_gate.proofs.Contents.{whole_open, open_whole, of_whole, whole_but, log_byte, log_long, log_within, log_same, records_kept}
@@ -126,71 +127,120 @@ module _ (layout : Layout) (area : ℕ) (placed : IsPlaced layout area) where
             (λ open_gate. shut (ap (λ n. get_or d n 0) place ∙ sym (log_byte layout area placed d (end_of k.payloads) (omega arith)) ∙ open_gate))))
       ]
 
--- A call in each picture of which the log has this content
-module _ (log : GateLog) (k : Content) where
-  abbrev pub Keeps : View → View → Type 0
-  Keeps start now = Within log.layout.dev (IsSameButLog log) (IsLog log k) start now
+-- an open gate's content, or none
+content_or : Option Content → Content
+content_or None = record { base = []; payloads = [] }
+content_or (Some k) = k
 
+module _ (log : GateLog) where
   steps : IsSteps (IsSameButLog log)
   steps = same_but_steps (log_address log.layout log.area 0) (log_length log.layout)
 
-  pub keeps_start : (start : View) → AreLog log k start → Keeps start start
-  keeps_start start has = starts log.layout.dev (IsSameButLog log) steps (IsLog log k) start has
-
-  pub keeps_write : (start mid new : View) {T : Type 0} (r : Result T Failed) (w n : ℕ) → Keeps start mid → IsDeviceCall r mid new → Changes log.layout.dev (IsTorn w n) mid new
-      → log_address log.layout log.area (log.end + 1) ≤ w → w + n ≤ log_address log.layout log.area (log_length log.layout) → Keeps start new
-  keeps_write start mid new r w n so_far call change from to =
-      changes log.layout.dev (IsSameButLog log) steps (IsLog log k) (IsLog log k) start mid new r (IsTorn w n) so_far call change (λ b c is torn. (
-        in_log log.layout log.area log.placed w n b c (omega arith) to (whole_open log.layout log.area log.end k b is).long torn,
-        behind log.layout log.area log.placed log.end k w n b c is from to torn,
-      )) (λ c is. is)
-
-  pub keeps_still : (start mid new : View) {T : Type 0} (r : Result T Failed) → Keeps start mid → IsDeviceCall r mid new → IsStill mid new → Keeps start new
-  keeps_still start mid new r so_far call same = still log.layout.dev (IsSameButLog log) steps (IsLog log k) start mid new r so_far call same
-
   -- the write of the gate
-  pub opens : (x read : List ℕ) (old new : View) {T : Type 0} (r : Result T Failed) (w : ℕ) → AreStagedOver log k x read old → w ≡ log_address log.layout log.area log.end → IsDeviceCall r old new → Changes log.layout.dev (IsTorn w 1) old new
-      → Within log.layout.dev (IsSameButLog log) (IsOldOrNew log k x read) old new
-  opens x read old new r w has at_w call change =
+  pub opens : (k : Content) (x read : List ℕ) (old new : View) {T : Type 0} (r : Result T Failed) (w : ℕ) → AreStagedOver log k x read old → w ≡ log_address log.layout log.area log.end → IsDeviceCall r old new → Changes log.layout.dev (IsTorn w 1) old new
+      → Within log.layout.dev (IsSameButLog log) (IsOpening log k x read) old new
+  opens k x read old new r w has at_w call change =
       let P : List ℕ → Type 0 = λ c. IsStaged log k x c × IsSameButLog log read c in
-      changes log.layout.dev (IsSameButLog log) steps P (IsOldOrNew log k x read) old old new r (IsTorn w 1)
+      changes log.layout.dev (IsSameButLog log) steps P (IsOpening log k x read) old old new r (IsTorn w 1)
       (starts log.layout.dev (IsSameButLog log) steps P old has) call change (λ b c is torn.
       let room = is.0.fits in
       let same : IsSameButLog log b c = in_log log.layout log.area log.placed w 1 b c (omega arith) (omega arith) (whole_open log.layout log.area log.end k b is.0.is).long torn in
-      (same, ⊎_elim (λ old. inl old) (λ new. inr (new, steps.both read b c is.1 same)) (gate_torn log.layout log.area log.placed log.end k x b c w is.0 at_w torn))) (λ c is. inl is.0.is.reads)
+      (same, (steps.both read b c is.1 same, gate_torn log.layout log.area log.placed log.end k x b c w is.0 at_w torn))) (λ c is. (is.1, inl is.0.is.reads))
 
-  pub opens_still : (x read : List ℕ) (start mid new : View) {T : Type 0} (r : Result T Failed) → Within log.layout.dev (IsSameButLog log) (IsOldOrNew log k x read) start mid → IsDeviceCall r mid new → IsStill mid new
-      → Within log.layout.dev (IsSameButLog log) (IsOldOrNew log k x read) start new
-  opens_still x read start mid new r so_far call same = still log.layout.dev (IsSameButLog log) steps (IsOldOrNew log k x read) start mid new r so_far call same
+  pub opens_still : (k : Content) (x read : List ℕ) (start mid new : View) {T : Type 0} (r : Result T Failed) → Within log.layout.dev (IsSameButLog log) (IsOpening log k x read) start mid → IsDeviceCall r mid new → IsStill mid new
+      → Within log.layout.dev (IsSameButLog log) (IsOpening log k x read) start new
+  opens_still k x read start mid new r so_far call same = still log.layout.dev (IsSameButLog log) steps (IsOpening log k x read) start mid new r so_far call same
+
+-- A call in each picture of which the log has an old content
+module _ (log : GateLog) (old : View) where
+  abbrev pub Keeps : View → Type 0
+  Keeps now = Within log.layout.dev (IsSameButLog log) (IsKeptLog log old) old now
+
+  pub keeps_start : HaveLog log old → Keeps old
+  keeps_start has =
+      starts log.layout.dev (IsSameButLog log) (steps log) (IsKeptLog log old) old (λ c may.
+      let log_is = has c may in
+      record { was = c; left = may; frame = (steps log).none c; holds = log_is.holds; old = log_is.is; now = log_is.is })
+
+  kept_torn : (w n : ℕ) (b c : List ℕ) → log_address log.layout log.area (log.end + 1) ≤ w → w + n ≤ log_address log.layout log.area (log_length log.layout) → IsKeptLog log old b → IsTorn w n b c
+      → IsSameButLog log b c × IsKeptLog log old c
+  kept_torn w n b c from to kept torn =
+      let same : IsSameButLog log b c = in_log log.layout log.area log.placed w n b c (omega arith) to (whole_open log.layout log.area log.end kept.holds b kept.now).long torn in (
+        same,
+        record {
+          was = kept.was;
+          left = kept.left;
+          frame = (steps log).both kept.was b c kept.frame same;
+          holds = kept.holds;
+          old = kept.old;
+          now = behind log.layout log.area log.placed log.end kept.holds w n b c kept.now from to torn;
+        },
+      )
+
+  pub keeps_write : (mid new : View) {T : Type 0} (r : Result T Failed) (w n : ℕ) → Keeps mid → IsDeviceCall r mid new → Changes log.layout.dev (IsTorn w n) mid new
+      → log_address log.layout log.area (log.end + 1) ≤ w → w + n ≤ log_address log.layout log.area (log_length log.layout) → Keeps new
+  keeps_write mid new r w n so_far call change from to =
+      changes log.layout.dev (IsSameButLog log) (steps log) (IsKeptLog log old) (IsKeptLog log old) old mid new r (IsTorn w n) so_far call change (λ b c kept torn. kept_torn w n b c from to kept torn) (λ c kept. kept)
+
+  pub keeps_still : (mid new : View) {T : Type 0} (r : Result T Failed) → Keeps mid → IsDeviceCall r mid new → IsStill mid new → Keeps new
+  keeps_still mid new r so_far call same = still log.layout.dev (IsSameButLog log) (steps log) (IsKeptLog log old) old mid new r so_far call same
+
+  -- a piece that keeps the content leaves an old one
+  pub keeps_old : (x : List ℕ) (mid : View) → Keeps mid → Within log.layout.dev (IsSameButLog log) (IsOldOrNew log old x) old mid
+  keeps_old x mid first =
+      weaker log.layout.dev (IsSameButLog log) (steps log) (IsKeptLog log old) (IsOldOrNew log old x) old mid
+      (λ b c may kept. inl (record { was = kept.was; left = kept.left; frame = kept.frame; reads = kept.now.reads ∙ sym kept.old.reads })) first
+
+  -- what a host reads at the start has content, where it tells what is left
+  read_has : {tells : Told} → IsLawful tells old → HaveLog log old → tells.stops
+      → content log.layout (old.reads log.layout.dev) ≡ Some (content_or (content log.layout (old.reads log.layout.dev))) × IsLog log (content_or (content log.layout (old.reads log.layout.dev))) (old.reads log.layout.dev)
+  unfolding content_or
+  read_has lawful has stops =
+      let read = old.reads log.layout.dev in
+      let here = has read (lawful.reads_an_image stops log.layout.dev) in
+      let same : content_or (content log.layout read) ≡ here.holds = ap content_or here.is.reads in
+      (here.is.reads ∙ ap (λ k. Some k) (sym same), subst (λ k. IsLog log k read) (sym same) here.is)
 
   -- After the first piece each image is what is read, and has the payload staged.
-  middle_staged : (x : List ℕ) (old mid : View) {tells : Told} → IsLawful tells old → IsLawful tells mid → AreLog log k old
+  middle_staged : (x : List ℕ) (mid : View) {tells : Told} → IsLawful tells old → IsLawful tells mid → HaveLog log old
       → (tells.reads → (m : Content) → IsLog log m (old.reads log.layout.dev) → IsStaged log m x (mid.reads log.layout.dev))
       → (tells.reads → IsSameButLog log (old.reads log.layout.dev) (mid.reads log.layout.dev)) → IsSettled log.layout.dev mid
-      → AreStagedOver log k x (old.reads log.layout.dev) mid
-  middle_staged x old mid lawful_old lawful_mid has staged same settled = λ image may.
+      → AreStagedOver log (content_or (content log.layout (old.reads log.layout.dev))) x (old.reads log.layout.dev) mid
+  middle_staged x mid lawful_old lawful_mid has staged same settled = λ image may.
       let stops = lawful_mid.stops_told log.layout.dev image may in
       let told = lawful_mid.reads_told stops in
+      let k = content_or (content log.layout (old.reads log.layout.dev)) in
       let P : List ℕ → Type 0 = λ c. IsStaged log k x c × IsSameButLog log (old.reads log.layout.dev) c in
-      subst P (sym (settled image may)) (staged told k (has (old.reads log.layout.dev) (lawful_old.reads_an_image stops log.layout.dev)), same told)
+      subst P (sym (settled image may)) (staged told k (read_has lawful_old has stops).1, same told)
 
-  -- a piece that keeps the content leaves the old one
-  pub keeps_old : (x : List ℕ) (old mid : View) → Keeps old mid → Within log.layout.dev (IsSameButLog log) (IsOldOrNew log k x (old.reads log.layout.dev)) old mid
-  keeps_old x old mid first = weaker log.layout.dev (IsSameButLog log) steps (IsLog log k) (IsOldOrNew log k x (old.reads log.layout.dev)) old mid (λ b c may is. inl is.reads) first
+  -- the second piece leaves an old content or the new one
+  opening_left : (x : List ℕ) (mid : View) {tells : Told} → IsLawful tells old → IsLawful tells mid → HaveLog log old → (b c : List ℕ) → mid.may_leave log.layout.dev b
+      → IsOpening log (content_or (content log.layout (old.reads log.layout.dev))) x (old.reads log.layout.dev) c → IsOldOrNew log old x c
+  opening_left x mid lawful_old lawful_mid has b c may opening =
+      let stops = lawful_mid.stops_told log.layout.dev b may in
+      let read = old.reads log.layout.dev in
+      let reads = (read_has lawful_old has stops).0 in
+      ⊎_elim
+      (λ kept. inl (record { was = read; left = lawful_old.reads_an_image stops log.layout.dev; frame = opening.0; reads = kept ∙ sym reads }))
+      (λ more. inr (record { frame = opening.0; reads = more ∙ sym (ap (option_map (λ k. added k x)) reads) }))
+      opening.1
 
   -- both pieces
-  pub both_pieces : (x : List ℕ) (old mid new : View) {tells : Told} → IsLawful tells old → IsLawful tells mid → AreLog log k old → Keeps old mid
+  pub both_pieces : (x : List ℕ) (mid new : View) {tells : Told} → IsLawful tells old → IsLawful tells mid → HaveLog log old → Keeps mid
       → (tells.reads → (m : Content) → IsLog log m (old.reads log.layout.dev) → IsStaged log m x (mid.reads log.layout.dev))
       → (tells.reads → IsSameButLog log (old.reads log.layout.dev) (mid.reads log.layout.dev)) → IsSettled log.layout.dev mid
-      → ((m : Content) (y read : List ℕ) → AreStagedOver log m y read mid → Within log.layout.dev (IsSameButLog log) (IsOldOrNew log m y read) mid new)
-      → Within log.layout.dev (IsSameButLog log) (IsOldOrNew log k x (old.reads log.layout.dev)) old new
-  both_pieces x old mid new lawful_old lawful_mid has first staged same settled second =
-      in_a_row log.layout.dev (IsSameButLog log) steps (IsOldOrNew log k x (old.reads log.layout.dev)) old mid new (keeps_old x old mid first)
-      (second k x (old.reads log.layout.dev) (middle_staged x old mid lawful_old lawful_mid has staged same settled))
+      → ((m : Content) (y read : List ℕ) → AreStagedOver log m y read mid → Within log.layout.dev (IsSameButLog log) (IsOpening log m y read) mid new)
+      → Within log.layout.dev (IsSameButLog log) (IsOldOrNew log old x) old new
+  both_pieces x mid new lawful_old lawful_mid has first staged same settled second =
+      let k = content_or (content log.layout (old.reads log.layout.dev)) in
+      let read = old.reads log.layout.dev in
+      in_a_row log.layout.dev (IsSameButLog log) (steps log) (IsOldOrNew log old x) old mid new (keeps_old x mid first)
+      (weaker log.layout.dev (IsSameButLog log) (steps log) (IsOpening log k x read) (IsOldOrNew log old x) mid new (opening_left x mid lawful_old lawful_mid has)
+      (second k x read (middle_staged x mid lawful_old lawful_mid has staged same settled)))
 
-  -- where each image is what is read, each has what that has
-  pub images_too : (P : List ℕ → Type 0) (old new : View) {tells : Told} → IsLawful tells old → IsLawful tells new → AreLog log k old
-      → (tells.reads → IsLog log k (old.reads log.layout.dev) → P (new.reads log.layout.dev)) → IsSettled log.layout.dev new → (image : List ℕ) → new.may_leave log.layout.dev image → P image
-  images_too P old new lawful_old lawful_new has is settled image may =
-      let stops = lawful_new.stops_told log.layout.dev image may in
-      subst P (sym (settled image may)) (is (lawful_new.reads_told stops) (has (old.reads log.layout.dev) (lawful_old.reads_an_image stops log.layout.dev)))
+-- where each image is what is read, each has what that has
+pub images_too : (log : GateLog) (k : Content) (P : List ℕ → Type 0) (old new : View) {tells : Told} → IsLawful tells old → IsLawful tells new → AreLog log k old
+    → (tells.reads → IsLog log k (old.reads log.layout.dev) → P (new.reads log.layout.dev)) → IsSettled log.layout.dev new → (image : List ℕ) → new.may_leave log.layout.dev image → P image
+images_too log k P old new lawful_old lawful_new has is settled image may =
+    let stops = lawful_new.stops_told log.layout.dev image may in
+    subst P (sym (settled image may)) (is (lawful_new.reads_told stops) (has (old.reads log.layout.dev) (lawful_old.reads_an_image stops log.layout.dev)))

@@ -1,5 +1,6 @@
 -- A gated log that is open.
 use Rattle.std.specs.Prelude.{◌≡◌, ◌⊎◌, ◌≤◌, ℕ, ◌+◌, ◌-◌, Some, List, [], ◌∷◌, ◌++◌, length, get_or}
+use Rattle.std.specs.Option.{option_map}
 use Rattle.tq_host.specs.View.{View}
 use Rattle.tq_host.specs.Calls.{StandsAt, IsSameBut}
 use Rattle.tq_field.specs.Digits.{digits}
@@ -67,7 +68,40 @@ IsStaged log k payload image = IsStagedIn log.layout log.area log.end k payload 
 abbrev pub AreStagedOver : GateLog → Content → List ℕ → List ℕ → View → Type 0
 AreStagedOver log k payload read v = (image : List ℕ) → v.may_leave log.layout.dev image → IsStaged log k payload image × IsSameButLog log read image
 
--- The old content; or the new one, and then the rest of the device is that of this image.
-abbrev pub IsOldOrNew : GateLog → Content → List ℕ → List ℕ → List ℕ → Type 0
-IsOldOrNew log k payload read image =
-    (content log.layout image ≡ Some k) ⊎ ((content log.layout image ≡ Some (added k payload)) × IsSameButLog log read image)
+-- An image with some content, and the log in memory is that of the image.
+pub record HasLog (log : GateLog) (image : List ℕ) : Type 0 where
+  pub holds : Content
+  pub is : IsLog log holds image
+
+-- each image that a stop may leave has some content, and the log in memory is that of the image
+abbrev pub HaveLog : GateLog → View → Type 0
+HaveLog log v = (image : List ℕ) → v.may_leave log.layout.dev image → HasLog log image
+
+-- The image has the content of one that a stop might leave before, and differs from it in the log alone.
+pub record IsAsLeft (log : GateLog) (before : View) (image : List ℕ) : Type 0 where
+  pub was : List ℕ
+  pub left : before.may_leave log.layout.dev was
+  pub frame : IsSameButLog log was image
+  pub reads : content log.layout image ≡ content log.layout was
+
+-- The image has the content of this one with a payload more, and differs from it in the log alone.
+pub record HasAdded (log : GateLog) (payload read image : List ℕ) : Type 0 where
+  pub frame : IsSameButLog log read image
+  pub reads : content log.layout image ≡ option_map (λ k. added k payload) (content log.layout read)
+
+-- An old content, or that of what was read with the payload more.
+abbrev pub IsOldOrNew : GateLog → View → List ℕ → List ℕ → Type 0
+IsOldOrNew log before payload image = IsAsLeft log before image ⊎ HasAdded log payload (before.reads log.layout.dev) image
+
+-- Beside the log this image's bytes, in the log this content, or that with the payload more.
+abbrev pub IsOpening : GateLog → Content → List ℕ → List ℕ → List ℕ → Type 0
+IsOpening log k payload read image = IsSameButLog log read image × ((content log.layout image ≡ Some k) ⊎ (content log.layout image ≡ Some (added k payload)))
+
+-- The image comes from one that a stop might leave before; both have the same content, and the log in memory is theirs.
+pub record IsKeptLog (log : GateLog) (before : View) (image : List ℕ) : Type 0 where
+  pub was : List ℕ
+  pub left : before.may_leave log.layout.dev was
+  pub frame : IsSameButLog log was image
+  pub holds : Content
+  pub old : IsLog log holds was
+  pub now : IsLog log holds image

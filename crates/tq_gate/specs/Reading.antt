@@ -1,5 +1,5 @@
 -- What a gated log reads as.
-use Rattle.std.specs.Prelude.{◌≡◌, ◌<◌, ◌≤◌, ℕ, zero, suc, ◌+◌, ◌==◌, nat_le, if◌then◌else◌, Option, None, Some, List, [], ◌∷◌, length, get_or}
+use Rattle.std.specs.Prelude.{◌≡◌, ◌<◌, ◌≤◌, ℕ, ◌+◌, nat_le, if◌then◌else◌, Option, None, List, [], ◌∷◌, length, get_or}
 use Rattle.std.specs.Option.{option_map}
 use Rattle.tq_field.specs.Places.{run_at, number_at}
 use Rattle.tq_field.specs.GatedLog.{log_reading, end_of}

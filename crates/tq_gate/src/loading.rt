@@ -1,14 +1,15 @@
-ghost use Rattle.std.specs.Prelude.{◌≡◌, ◌≢◌, ◌≤◌, length, slice_index, map, IfOk, IfErr, IsErrOf};
+ghost use Rattle.std.specs.Prelude.{◌≡◌, ◌≢◌, ◌≤◌, ℕ, List, [], length, slice_index, map, IfOk, IfErr, IsErrOf};
 ghost use Rattle.tq_host.specs.Calls.{HasCauseOf};
 ghost use Rattle.tq_gate.specs.declared.fault.GateError.TheVariants as fault;
 ghost use Rattle.tq_gate.specs.Layout.{log_length, layout_end, IsLaidOut, IsPlaced};
-ghost use Rattle.tq_gate.specs.Reading.{AreRecords};
+ghost use Rattle.tq_gate.specs.declared.layout.Areas.{Areas};
+ghost use Rattle.tq_gate.specs.Reading.{Content, content, AreRecords};
 ghost use Rattle.tq_field.specs.GatedLog.{end_of};
-ghost use Rattle.tq_gate.specs.Log.{IsLog, layout_of};
+ghost use Rattle.tq_gate.specs.Log.{IsLog, layout_of, free_in};
 ghost use Rattle.tq_gate.specs.Loading.{IsQuiet, IsRefused, IsRefusedLog};
 ghost use Rattle.tq_gate.specs.Loaded.{content_of};
 
-use crate::layout::Layout;
+use crate::layout::{Areas, Layout};
 use crate::reading::{choose_area, read_bytes};
 use crate::scanning::{Scan, ScanError, scan_log};
 use crate::{GateError, GateLog};
@@ -65,6 +66,21 @@ fn open_log(
 }
 
 impl GateLog {
+    /// The log of one area that lies there and has no payloads, without a call on the device.
+    pub fn empty(layout: &Layout) -> GateLog
+        requires laid_out { IsLaidOut layout.now }
+        requires one { layout.now.areas ≡ Areas.One }
+        ensures layout { layout_of result ≡ layout.now }
+        ensures free { free_in result ≡ log_length layout.now }
+        ensures on { (k : Content) (image : List ℕ) → content layout.now image ≡ Some k → k.payloads ≡ [] → IsLog result k image }
+    {
+        GateLog {
+            layout: *layout,
+            area: layout.first_area(),
+            end: 0,
+        }
+    }
+
     /// Opens the log that lies there, and reads its content. Nothing is written.
     ///
     /// `Damaged` comes exactly where an open gate stands whose payload, with the gate behind it,

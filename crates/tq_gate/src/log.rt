@@ -24,7 +24,7 @@ impl GateLog {
     ghost use Rattle.tq_host.specs.Within.{Within, KeepsRest};
     ghost use Rattle.tq_gate.specs.Layout.{layout_end};
     ghost use Rattle.tq_gate.specs.Reading.{Content};
-    ghost use Rattle.tq_gate.specs.Log.{IsLog, AreLog, added, layout_of, free_in, FitsIn, IsSameLog, IsSameButLog, IsOldOrNew};
+    ghost use Rattle.tq_gate.specs.Log.{IsLog, AreLog, HaveLog, added, layout_of, free_in, FitsIn, IsSameLog, IsSameButLog, IsOldOrNew};
 
     /// The bytes that are left: the log's length less those of its payloads, each with its gate
     /// and its length.
@@ -58,11 +58,10 @@ impl GateLog {
         requires fits { FitsIn self.old (length payload.now) }
         requires reach { H.tells.reads → layout_end (layout_of self.old) ≤ length ((H.view host.old).reads (layout_of self.old).dev) }
 
-        // In each picture the content is the old one or the new one. It comes from one image of
-        // the start, whose length and other bytes it has; where it has the new content, the rest
-        // of the device is what it read at the start.
-        ensures stop { (k : Content) → AreLog self.old k (H.view host.old)
-            → Within (layout_of self.old).dev (IsSameButLog self.old) (IsOldOrNew self.old k payload.now ((H.view host.old).reads (layout_of self.old).dev)) (H.view host.old) (H.view host.new) }
+        // In each picture the content is that of one image of the start, or that of what was read
+        // at the start with the payload more; outside the log all is as it was there.
+        ensures stop { HaveLog self.old (H.view host.old)
+            → Within (layout_of self.old).dev (IsSameButLog self.old) (IsOldOrNew self.old (H.view host.old) payload.now) (H.view host.old) (H.view host.new) }
 
         // What is read, and each image, is the new content.
         ensures added { OnOk result (H.tells.reads → (k : Content) → IsLog self.old k ((H.view host.old).reads (layout_of self.old).dev)

@@ -5,7 +5,7 @@ ghost use Rattle.tq_host.specs.Within.{Within, KeepsRest};
 ghost use Rattle.tq_field.specs.Digits.{digits};
 ghost use Rattle.tq_gate.specs.Layout.{layout_end};
 ghost use Rattle.tq_gate.specs.Reading.{Content};
-ghost use Rattle.tq_gate.specs.Log.{IsLog, AreLog, added, FitsIn, IsSameButLog, IsOpen, IsStaged, AreStagedOver, IsOldOrNew};
+ghost use Rattle.tq_gate.specs.Log.{IsLog, HaveLog, added, FitsIn, IsSameButLog, IsOpen, IsStaged, AreStagedOver, IsKeptLog, IsOpening};
 
 use crate::GateLog;
 use tq_field::put_u32;
@@ -33,9 +33,9 @@ pub(crate) fn stage<H: Host>(host: &mut H, log: &GateLog, payload: &[u8]) -> Res
     requires fits { FitsIn log.now (length payload.now) }
     requires reach { H.tells.reads → layout_end log.now.layout ≤ length ((H.view host.old).reads log.now.layout.dev) }
 
-    // In each picture the content is the old one.
-    ensures stop { (k : Content) → AreLog log.now k (H.view host.old)
-        → Within log.now.layout.dev (IsSameButLog log.now) (IsLog log.now k) (H.view host.old) (H.view host.new) }
+    // In each picture the content is an old one.
+    ensures stop { HaveLog log.now (H.view host.old)
+        → Within log.now.layout.dev (IsSameButLog log.now) (IsKeptLog log.now (H.view host.old)) (H.view host.old) (H.view host.new) }
     ensures staged { OnOk result (H.tells.reads → (k : Content) → IsLog log.now k ((H.view host.old).reads log.now.layout.dev)
         → IsStaged log.now k payload.now ((H.view host.new).reads log.now.layout.dev)) }
     ensures frame { OnOk result (H.tells.reads → IsSameButLog log.now ((H.view host.old).reads log.now.layout.dev) ((H.view host.new).reads log.now.layout.dev)) }
@@ -59,7 +59,7 @@ pub(crate) fn open_gate<H: Host>(host: &mut H, log: &GateLog) -> Result<(), Fail
 
     // In each picture the content is the old one or the new one.
     ensures stop { (k : Content) → (payload read : List ℕ) → AreStagedOver log.now k payload read (H.view host.old)
-        → Within log.now.layout.dev (IsSameButLog log.now) (IsOldOrNew log.now k payload read) (H.view host.old) (H.view host.new) }
+        → Within log.now.layout.dev (IsSameButLog log.now) (IsOpening log.now k payload read) (H.view host.old) (H.view host.new) }
     ensures opened { OnOk result (H.tells.reads → (k : Content) → (payload : List ℕ) → IsStaged log.now k payload ((H.view host.old).reads log.now.layout.dev)
         → IsOpen log.now.layout log.now.area (log.now.end + (5 + length payload)) (added k payload) ((H.view host.new).reads log.now.layout.dev)) }
     ensures frame { OnOk result (H.tells.reads → IsSameButLog log.now ((H.view host.old).reads log.now.layout.dev) ((H.view host.new).reads log.now.layout.dev)) }

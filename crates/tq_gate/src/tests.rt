@@ -104,6 +104,19 @@ fn a_blank_log_is_empty(rt: HostRuntime) -> Result<(), Fail> {
     Ok(())
 }
 
+#[test]
+fn an_empty_log_is_that_of_a_blank_image(rt: HostRuntime) -> Result<(), Fail> {
+    let alloc = rt.alloc();
+    let mut host = MemHost::new(alloc, b"".as_slice(), 1)?;
+    host.set_device(1, &blank(alloc)?)?;
+    let mut log = GateLog::empty(&ONE);
+    assert_eq!(rt; log.free(), 1024);
+    log.append(&mut host, b"ab")?;
+    assert_eq!(rt; log.free(), 1017);
+    assert_eq!(rt; count_payloads(alloc, &ONE, host.image(1))?, 1);
+    Ok(())
+}
+
 // The log is full after twenty payloads of 46 bytes.
 #[test]
 fn twenty_payloads_fill_a_log(rt: HostRuntime) -> Result<(), Fail> {

@@ -10,6 +10,21 @@ use Rattle.tq_host.proofs.Steps.{IsSteps}
 pub read_too : {tells : Told} (v : View) → IsLawful tells v → (d : ℕ) (c : List ℕ) → v.may_leave d c → v.may_leave d (v.reads d)
 read_too v lawful d c may = lawful.reads_an_image (lawful.stops_told d c may) d
 
+-- other steps and another property of the images
+pub wider : (dev : ℕ) (S R : List ℕ → List ℕ → Type 0) (Q P : List ℕ → Type 0) (start now : View) → ((b c : List ℕ) → start.may_leave dev b → S b c → Q c → R b c × P c) → Within dev S Q start now → Within dev R P start now
+wider dev S R Q P start now is so_far =
+    let came : (c : List ℕ) → Came dev S Q start c → Came dev R P start c = λ c a.
+    let both = is a.image c a.was a.step a.now in
+    record { image = a.image; was = a.was; step = both.0; now = both.1 } in
+    record {
+      later = so_far.later;
+      own = λ c may. came c (so_far.own c may);
+      others = so_far.others;
+      others_read = so_far.others_read;
+      streams = so_far.streams;
+      pictures = λ t p le left. ⊎_elim (λ old. inl old) (λ a. inr (record { own = came (p.images dev) a.own; others = a.others; output = a.output })) (so_far.pictures t p le left);
+    }
+
 -- after a sync that succeeds each image is what is read
 pub settles : (dev : ℕ) (old new : View) → IsStill old new → Syncs dev old new → IsSettled dev new
 settles dev old new same synced = λ c may. synced.durable c may ∙ sym (same.reads dev)
@@ -64,16 +79,7 @@ module _ (dev : ℕ) (S : List ℕ → List ℕ → Type 0) (steps : IsSteps S) 
 
   -- another property of the images; that there is an image shows that the content is told
   pub weaker : (Q P : List ℕ → Type 0) (start now : View) → ((b c : List ℕ) → start.may_leave dev b → Q c → P c) → Within dev S Q start now → Within dev S P start now
-  weaker Q P start now is so_far =
-      let came : (c : List ℕ) → Came dev S Q start c → Came dev S P start c = λ c a. record { image = a.image; was = a.was; step = a.step; now = is a.image c a.was a.now } in
-      record {
-        later = so_far.later;
-        own = λ c may. came c (so_far.own c may);
-        others = so_far.others;
-        others_read = so_far.others_read;
-        streams = so_far.streams;
-        pictures = λ t p le left. ⊎_elim (λ old. inl old) (λ a. inr (record { own = came (p.images dev) a.own; others = a.others; output = a.output })) (so_far.pictures t p le left);
-      }
+  weaker Q P start now is so_far = wider dev S S Q P start now (λ b c may step has. (step, is b c may has)) so_far
 
   -- a write or a change of the length, from P to Q
   pub changes : (P Q : List ℕ → Type 0) (start mid new : View) {T : Type 0} (r : Result T Failed) (step : List ℕ → List ℕ → Type 0) → Within dev S P start mid → IsDeviceCall r mid new

@@ -3,7 +3,7 @@ use Rattle.std.specs.Prelude.{◌≡◌, ℕ, ◌+◌, ◌-◌, ◌==◌, nat_lt
 use Rattle.tq_model.specs.declared.answer.Answer.{Answer}
 use Rattle.tq_model.specs.declared.answer.Answer.TheVariants.{Done, Syntax, SystemError, TooLong as TooLongLine}
 use Rattle.tq_model.specs.declared.request.Request.{Request}
-use Rattle.tq_model.specs.declared.request.Request.TheVariants.{Nothing, Boot, Bad, TooLong, Device}
+use Rattle.tq_model.specs.declared.request.Request.TheVariants.{Nothing, Boot, Bad, TooLong, Device, Space, Call}
 use Rattle.tq_model.specs.Site.{Site, durable}
 use Rattle.tq_model.specs.Step.{step, can_boot, booted, boot}
 use Rattle.tq_model.specs.Text.{line_text}
@@ -69,6 +69,8 @@ down_answer (Bad column) = Syntax column
 down_answer TooLong = TooLongLine
 down_answer Boot = SystemError
 down_answer (Device request) = SystemError
+down_answer (Space request) = SystemError
+down_answer (Call request) = SystemError
 
 abbrev pub down_turn : Bool → Option Site → List Site → Request → Turn
 down_turn rose found sites Boot = reboot_turn rose found sites

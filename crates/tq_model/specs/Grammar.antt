@@ -1,20 +1,28 @@
 -- What the bytes of a script spell: one request a line. The verbs stand in a table; another verb is another row.
-use Rattle.std.specs.Prelude.{ℕ, zero, suc, ◌+◌, ◌-◌, ◌==◌, ◌&&◌, not, nat_lt, nat_le, Bool, true, false, if◌then◌else◌, List, [], ◌∷◌, length, take, drop, get_or, map, codes, Option, Some, None, option_map}
+use Rattle.std.specs.Prelude.{ℕ, zero, suc, ◌+◌, ◌-◌, ◌*◌, ◌==◌, ◌&&◌, ◌||◌, not, nat_lt, nat_le, Bool, true, false, if◌then◌else◌, List, [], ◌∷◌, length, take, drop, get_or, map, codes, Option, Some, None, option_map, unwrap_or}
 use Rattle.std.specs.List.{list_all, list_any, before_first, after_first}
-use Rattle.std.specs.Char.{is_ascii_digit}
+use Rattle.std.specs.Char.{is_ascii_digit, is_ascii_hexdigit, digit_value}
 use Rattle.std.specs.Str.{bytes_eq}
 use Rattle.std.specs.Str.Parse.{digits_value}
+use Rattle.tq_model.specs.declared.calls.Flag.{Flag}
+use Rattle.tq_model.specs.declared.calls.Flag.TheVariants as flags
 use Rattle.tq_model.specs.declared.grammar.Verb.{Verb}
-use Rattle.tq_model.specs.declared.grammar.Verb.TheVariants.{CreateDevice, ListDevice}
+use Rattle.tq_model.specs.declared.grammar.Verb.TheVariants.{CreateDevice, ListDevice, CreateSpace, CreateQueue, Enqueue, Dequeue}
 use Rattle.tq_model.specs.declared.grammar.Kind.{Kind}
 use Rattle.tq_model.specs.declared.grammar.Kind.TheVariants as kinds
 use Rattle.tq_model.specs.declared.grammar.Key.{Key}
 use Rattle.tq_model.specs.declared.grammar.Key.TheVariants as keys
 use Rattle.tq_model.specs.declared.grammar.Value.{Value}
-use Rattle.tq_model.specs.declared.grammar.Value.TheVariants.{Number}
+use Rattle.tq_model.specs.declared.grammar.Value.TheVariants.{Number, Name, ErrorName, Text, Flags}
 use Rattle.tq_model.specs.declared.request.Request.{Request}
-use Rattle.tq_model.specs.declared.request.Request.TheVariants.{Nothing, Bad, TooLong, Device}
+use Rattle.tq_model.specs.declared.request.Request.TheVariants.{Nothing, Bad, TooLong, Device, Space, Call}
 use Rattle.tq_model.specs.declared.request.DeviceRequest.TheVariants.{Create, List as ListOf}
+use Rattle.tq_model.specs.declared.request.SpaceRequest.TheVariants as space_requests
+use Rattle.tq_model.specs.declared.request.CallRequest.TheVariants as call_requests
+use Rattle.tq_model.specs.declared.request.SpaceCreation.{SpaceCreation}
+use Rattle.tq_model.specs.declared.calls.EnqueueWords.{EnqueueWords}
+use Rattle.tq_model.specs.declared.calls.DequeueWords.{DequeueWords}
+use Rattle.tq_model.specs.Names.{is_name}
 
 -- Lines
 
@@ -80,19 +88,120 @@ number_between low high word =
     let n = digits_value 10 word in
     if is_numeral word && nat_le low n && nat_le n high then Some (Number n) else None
 
+abbrev pub name_value : List ℕ → Option Value
+name_value word = if is_name word then Some (Name word) else None
+
+-- `-` for none
+abbrev pub error_value : List ℕ → Option Value
+error_value word = if bytes_eq word (codes "-") then Some (ErrorName None) else (if is_name word then Some (ErrorName (Some word)) else None)
+
+-- where in a text a byte stands: at an item's begin, behind a backslash, or behind the first of two hexadecimal digits
+pub data TextPlace : Type 0 where
+  Item : TextPlace
+  Backslash : TextPlace
+  HalfByte : ℕ → TextPlace
+
+abbrev pub is_printable : ℕ → Bool
+is_printable b = nat_le 32 b && nat_le b 126
+
+abbrev pub is_empty_list : List ℕ → Bool
+is_empty_list [] = true
+is_empty_list (b ∷ bytes) = false
+
+abbrev pub with_text_byte : ℕ → Option (List ℕ) → Option (List ℕ)
+with_text_byte b text = option_map (λ bytes. b ∷ bytes) text
+
+-- What stands behind a text's first quote. An item is a printable byte, or a backslash with a quote, a backslash or two
+-- hexadecimal digits; the quote that ends the text is the last byte.
+abbrev pub text_from : TextPlace → List ℕ → Option (List ℕ)
+text_from place [] = None
+text_from Item (b ∷ bytes) =
+    if b == 34 then (if is_empty_list bytes then Some [] else None)
+    else (if b == 92 then text_from Backslash bytes
+    else (if is_printable b then with_text_byte b (text_from Item bytes) else None))
+text_from Backslash (b ∷ bytes) =
+    if b == 34 || b == 92 then with_text_byte b (text_from Item bytes)
+    else (if is_ascii_hexdigit b then text_from (HalfByte (digit_value b)) bytes else None)
+text_from (HalfByte high) (b ∷ bytes) = if is_ascii_hexdigit b then with_text_byte (16 * high + digit_value b) (text_from Item bytes) else None
+
+abbrev pub text_of : List ℕ → Option (List ℕ)
+text_of [] = None
+text_of (b ∷ bytes) = if b == 34 then text_from Item bytes else None
+
+abbrev pub flag_word : Flag → List ℕ
+flag_word flags.NoFlags = codes "TPNOFLAGS"
+flag_word flags.Priority = codes "TPQPRIORITY"
+flag_word flags.TimeAbsolute = codes "TPQTIME_ABS"
+flag_word flags.TimeRelative = codes "TPQTIME_REL"
+flag_word flags.ExpirationAbsolute = codes "TPQEXPTIME_ABS"
+flag_word flags.ExpirationRelative = codes "TPQEXPTIME_REL"
+flag_word flags.ExpirationNone = codes "TPQEXPTIME_NONE"
+flag_word flags.Top = codes "TPQTOP"
+flag_word flags.BeforeMessage = codes "TPQBEFOREMSGID"
+flag_word flags.Correlation = codes "TPQCORRID"
+flag_word flags.ReplyQueue = codes "TPQREPLYQ"
+flag_word flags.FailureQueue = codes "TPQFAILUREQ"
+flag_word flags.DeliveryQuality = codes "TPQDELIVERYQOS"
+flag_word flags.ReplyQuality = codes "TPQREPLYQOS"
+flag_word flags.MessageId = codes "TPQMSGID"
+flag_word flags.GetByMessageId = codes "TPQGETBYMSGID"
+flag_word flags.GetByCorrelation = codes "TPQGETBYCORRID"
+flag_word flags.Peek = codes "TPQPEEK"
+flag_word flags.Wait = codes "TPQWAIT"
+
+-- the flags that a script may name so far
+abbrev pub known_flags : List Flag
+known_flags = flags.NoFlags ∷ flags.MessageId ∷ []
+
+abbrev pub flag_among : List Flag → List ℕ → Option Flag
+flag_among [] word = None
+flag_among (flag ∷ flags) word = if bytes_eq word (flag_word flag) then Some flag else flag_among flags word
+
+-- the pieces between the bytes `|`, of which there is one more than of these bytes
+abbrev pub pieces : List ℕ → List (List ℕ)
+pieces [] = [] ∷ []
+pieces (b ∷ bytes) = if b == 124 then [] ∷ pieces bytes else with_byte b (pieces bytes)
+
+abbrev pub with_flag : Option Flag → Option (List Flag) → Option (List Flag)
+with_flag None flags = None
+with_flag (Some flag) flags = option_map (λ rest. flag ∷ rest) flags
+
+-- names of flags, each at most once
+abbrev pub flags_from : List (List ℕ) → Option (List Flag)
+flags_from [] = Some []
+flags_from (word ∷ words) = if list_any (bytes_eq word) words then None else with_flag (flag_among known_flags word) (flags_from words)
+
 -- what a word of a kind spells, and None where it is not of that kind
 abbrev pub value_of : Kind → List ℕ → Option Value
 value_of kinds.Device word = number_between 0 7 word
+value_of kinds.Session word = number_between 1 32 word
 value_of kinds.Number word = number_between 0 18446744073709551615 word
+value_of kinds.Name word = name_value word
+value_of kinds.ErrorName word = error_value word
+value_of kinds.Text word = option_map Text (text_of word)
+value_of kinds.Flags word = option_map Flags (flags_from (pieces word))
 
 -- The table
 
 abbrev pub verb_word : Verb → List ℕ
 verb_word CreateDevice = codes "crdl"
 verb_word ListDevice = codes "lidl"
+verb_word CreateSpace = codes "qspacecreate"
+verb_word CreateQueue = codes "qcreate"
+verb_word Enqueue = codes "tpenqueue"
+verb_word Dequeue = codes "tpdequeue"
 
 abbrev pub key_word : Key → List ℕ
 key_word keys.Site = codes "site"
+key_word keys.Dev = codes "dev"
+key_word keys.Pages = codes "pages"
+key_word keys.Queues = codes "queues"
+key_word keys.Transactions = codes "trans"
+key_word keys.Messages = codes "msgs"
+key_word keys.Error = codes "error"
+key_word keys.Memory = codes "memory"
+key_word keys.Flags = codes "flags"
+key_word keys.Data = codes "data"
 
 -- a key of a verb
 pub record KeyRow : Type 0 where
@@ -105,12 +214,27 @@ pub record Row : Type 0 where
   pub positional : List Kind
   pub keyed : List KeyRow
 
+abbrev pub needed : Key → Kind → KeyRow
+needed key kind = record { key = key; kind = kind; required = true }
+
+abbrev pub optional : Key → Kind → KeyRow
+optional key kind = record { key = key; kind = kind; required = false }
+
+abbrev pub space_keys : List KeyRow
+space_keys =
+    needed keys.Dev kinds.Device ∷ needed keys.Pages kinds.Number ∷ needed keys.Queues kinds.Number ∷ needed keys.Transactions kinds.Number
+    ∷ needed keys.Messages kinds.Number ∷ needed keys.Error kinds.ErrorName ∷ needed keys.Memory kinds.Number ∷ []
+
 abbrev pub row_of : Verb → Row
-row_of CreateDevice = record { positional = kinds.Device ∷ kinds.Number ∷ []; keyed = (record { key = keys.Site; kind = kinds.Number; required = false }) ∷ [] }
+row_of CreateDevice = record { positional = kinds.Device ∷ kinds.Number ∷ []; keyed = optional keys.Site kinds.Number ∷ [] }
 row_of ListDevice = record { positional = kinds.Device ∷ []; keyed = [] }
+row_of CreateSpace = record { positional = kinds.Name ∷ []; keyed = space_keys }
+row_of CreateQueue = record { positional = kinds.Name ∷ kinds.Name ∷ []; keyed = [] }
+row_of Enqueue = record { positional = kinds.Session ∷ kinds.Name ∷ kinds.Name ∷ []; keyed = optional keys.Flags kinds.Flags ∷ needed keys.Data kinds.Text ∷ [] }
+row_of Dequeue = record { positional = kinds.Session ∷ kinds.Name ∷ kinds.Name ∷ []; keyed = optional keys.Flags kinds.Flags ∷ [] }
 
 abbrev pub verbs : List Verb
-verbs = CreateDevice ∷ ListDevice ∷ []
+verbs = CreateDevice ∷ ListDevice ∷ CreateSpace ∷ CreateQueue ∷ Enqueue ∷ Dequeue ∷ []
 
 abbrev pub verb_among : List Verb → List ℕ → Option Verb
 verb_among [] word = None
@@ -147,6 +271,16 @@ key_among (row ∷ rows) name = if bytes_eq name (key_word row.key) then Some ro
 
 abbrev pub is_same_key : Key → Key → Bool
 is_same_key keys.Site keys.Site = true
+is_same_key keys.Dev keys.Dev = true
+is_same_key keys.Pages keys.Pages = true
+is_same_key keys.Queues keys.Queues = true
+is_same_key keys.Transactions keys.Transactions = true
+is_same_key keys.Messages keys.Messages = true
+is_same_key keys.Error keys.Error = true
+is_same_key keys.Memory keys.Memory = true
+is_same_key keys.Flags keys.Flags = true
+is_same_key keys.Data keys.Data = true
+is_same_key _ _ = false
 
 -- the rows without that key, which may be given only once
 abbrev pub rows_without : Key → List KeyRow → List KeyRow
@@ -182,18 +316,77 @@ scan (kind ∷ positional) rows (w ∷ words) = after_value (value_of kind w.byt
 
 -- Requests
 
-abbrev pub number_in : Value → Option ℕ
-number_in (Number n) = Some n
+-- the value that was given with a key
+abbrev pub value_given : Key → List Given → Option Value
+value_given key [] = None
+value_given key (g ∷ given) = if is_same_key key g.key then Some g.value else value_given key given
 
--- the number that was given with a key
+abbrev pub number_in : Option Value → Option ℕ
+number_in (Some (Number n)) = Some n
+number_in _ = None
+
+abbrev pub error_in : Option Value → Option (List ℕ)
+error_in (Some (ErrorName name)) = name
+error_in _ = None
+
+abbrev pub text_in : Option Value → List ℕ
+text_in (Some (Text bytes)) = bytes
+text_in _ = []
+
+abbrev pub flags_in : Option Value → List Flag
+flags_in (Some (Flags flags)) = flags
+flags_in _ = []
+
 abbrev pub number_given : Key → List Given → Option ℕ
-number_given key [] = None
-number_given key (g ∷ given) = if is_same_key key g.key then number_in g.value else number_given key given
+number_given key given = number_in (value_given key given)
+
+-- the number of a key that has to be given
+abbrev pub number_needed : Key → List Given → ℕ
+number_needed key given = unwrap_or (number_given key given) 0
+
+abbrev pub space_creation : List ℕ → List Given → SpaceCreation
+space_creation name given =
+    record {
+      name = name;
+      dev = number_needed keys.Dev given;
+      pages = number_needed keys.Pages given;
+      queues = number_needed keys.Queues given;
+      transactions = number_needed keys.Transactions given;
+      messages = number_needed keys.Messages given;
+      error = error_in (value_given keys.Error given);
+      memory = number_needed keys.Memory given;
+    }
+
+abbrev pub enqueue_words : List ℕ → List ℕ → List Given → EnqueueWords
+enqueue_words space queue given =
+    record {
+      space = space;
+      queue = queue;
+      notran = false;
+      flags = flags_in (value_given keys.Flags given);
+      prio = None;
+      deqtime = None;
+      exptime = None;
+      msgid = None;
+      corr = None;
+      replyq = None;
+      failq = None;
+      qos = None;
+      rqos = None;
+      body = text_in (value_given keys.Data given);
+    }
+
+abbrev pub dequeue_words : List ℕ → List ℕ → List Given → DequeueWords
+dequeue_words space queue given = record { space = space; queue = queue; notran = false; flags = flags_in (value_given keys.Flags given); msgid = None; corr = None }
 
 -- what a verb with these words asks for
 abbrev pub request_of : Verb → List Value → List Given → Request
 request_of CreateDevice (Number dev ∷ Number clusters ∷ []) given = Device (Create (record { dev = dev; clusters = clusters; site = number_given keys.Site given }))
 request_of ListDevice (Number dev ∷ []) given = Device (ListOf dev)
+request_of CreateSpace (Name name ∷ []) given = Space (space_requests.Create (space_creation name given))
+request_of CreateQueue (Name space ∷ Name queue ∷ []) given = Space (space_requests.CreateQueue (record { space = space; queue = queue }))
+request_of Enqueue (Number session ∷ Name space ∷ Name queue ∷ []) given = Call (call_requests.Enqueue session (enqueue_words space queue given))
+request_of Dequeue (Number session ∷ Name space ∷ Name queue ∷ []) given = Call (call_requests.Dequeue session (dequeue_words space queue given))
 request_of verb values given = Nothing
 
 -- the column behind a line of that length is where a missing word should begin

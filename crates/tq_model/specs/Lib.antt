@@ -12,3 +12,10 @@ pub mod EnqueueStep
 pub mod DequeueStep
 pub mod Names
 pub mod SpaceForm
+pub mod Plain
+pub mod Entries
+pub mod Asked
+pub mod Held
+pub mod Fields
+pub mod Tables
+pub mod Parts

@@ -1,7 +1,11 @@
 -- The state of the serial queue machine.
-use Rattle.std.specs.Prelude.{◌≡◌, ℕ, ◌+◌, ◌-◌, ◌==◌, ◌&&◌, nat_lt, nat_le, Bool, true, false, is_some, if◌then◌else◌, List, [], ◌∷◌, length, get_or, set, replicate, Option, Some, None}
+use Rattle.std.specs.Prelude.{◌≡◌, ℕ, ◌+◌, ◌-◌, ◌*◌, ◌==◌, ◌&&◌, nat_lt, nat_le, Bool, true, false, is_some, if◌then◌else◌, List, [], ◌∷◌, length, map, get_or, set, replicate, Option, Some, None, option_map}
+use Rattle.std.specs.List.{find, filter_map, flat_map, sum_by}
+use Rattle.std.specs.Str.{bytes_eq}
 use Rattle.tq_model.specs.declared.answer.Identity.{Identity}
 use Rattle.tq_model.specs.declared.answer.Capacity.{Capacity}
+use Rattle.tq_model.specs.declared.answer.Extent.{Extent}
+use Rattle.tq_model.specs.Space.{Space, divided_up, crashed}
 
 -- Limits
 abbrev pub last_epoch : ℕ
@@ -17,10 +21,27 @@ most_clusters = 8192
 abbrev pub header_clusters : ℕ
 header_clusters = 4
 
+-- the last ordinal of a space, which gives none
+abbrev pub last_space : ℕ
+last_space = 268435455
+
+-- the most pages of a space
+abbrev pub most_pages : ℕ
+most_pages = 262016
+
+-- a space in its place on a device
+pub record Placed : Type 0 where
+  pub name : List ℕ
+  pub pages : ℕ  -- all of them, those of the overhead included
+  pub extents : List Extent  -- its clusters
+  pub logged : ℕ  -- the bytes of its log that are taken
+  pub space : Space
+
 -- a device that is created
 pub record Volume : Type 0 where
   pub clusters : ℕ
   pub next_space : ℕ  -- the ordinal of the next space to be made on it, from 1
+  pub entries : List (Option Placed)  -- the 16 entries of its table; None is an unused one
 
 pub record Site : Type 0 where
   pub identity : Option Identity  -- where device 0 is created
@@ -34,25 +55,75 @@ volume_of s dev = get_or s.devices dev None
 abbrev pub is_created : Site → ℕ → Bool
 is_created s dev = is_some (volume_of s dev)
 
-abbrev pub capacity_of : Volume → Capacity
-capacity_of v = record { clusters = v.clusters; free = v.clusters - header_clusters }
+-- a table of which only the first entry may be used
+abbrev pub table_with : Option Placed → List (Option Placed)
+table_with first = first ∷ replicate 15 None
 
 -- devices that are all blank
 abbrev pub blank_site : ℕ → Site
 blank_site devices = record { identity = None; next = 0; clock = 0; devices = replicate devices None }
 
--- What is left after a crash.
-abbrev pub durable : Site → Site
-durable s = record s { next = 0; clock = 0 }
+-- Spaces
 
--- how many spaces stand on all devices; no line makes one yet
+-- what stands in a list of options
+abbrev pub present : {X : Type 0} → List (Option X) → List X
+present options = filter_map (λ o. o) options
+
+-- the spaces of a device, by its table
+abbrev pub spaces_on : Volume → List Placed
+spaces_on v = present v.entries
+
+abbrev pub site_spaces : Site → List Placed
+site_spaces s = flat_map spaces_on (present s.devices)
+
 abbrev pub space_count : Site → ℕ
-space_count s = 0
+space_count s = length (site_spaces s)
 
--- how many spaces stand on a device
-abbrev pub spaces_on : Volume → ℕ
-spaces_on v = 0
+abbrev pub has_name : List ℕ → Placed → Bool
+has_name name placed = bytes_eq placed.name name
+
+abbrev pub space_named : List ℕ → Site → Option Placed
+space_named name s = find (has_name name) (site_spaces s)
+
+-- the site in which each space of that name is changed
+abbrev pub changed_if : List ℕ → (Placed → Placed) → Placed → Placed
+changed_if name change placed = if has_name name placed then change placed else placed
+
+abbrev pub on_spaces : (Placed → Placed) → Volume → Volume
+on_spaces change v = record v { entries = map (option_map change) v.entries }
+
+abbrev pub on_devices : (Volume → Volume) → Site → Site
+on_devices change s = record s { devices = map (option_map change) s.devices }
+
+abbrev pub with_space : List ℕ → (Placed → Placed) → Site → Site
+with_space name change s = on_devices (on_spaces (changed_if name change)) s
 
 -- how many branches are in doubt; no line prepares one yet
 abbrev pub in_doubt_count : Site → ℕ
 in_doubt_count s = 0
+
+-- Clusters
+
+-- the clusters for so many pages
+abbrev pub clusters_for : ℕ → ℕ
+clusters_for pages = divided_up pages 32
+
+abbrev pub taken_clusters : Volume → ℕ
+taken_clusters v = sum_by (λ (p : Placed). sum_by (λ (e : Extent). e.count) p.extents) (spaces_on v)
+
+abbrev pub free_clusters : Volume → ℕ
+free_clusters v = v.clusters - (header_clusters + taken_clusters v)
+
+abbrev pub capacity_of : Volume → Capacity
+capacity_of v = record { clusters = v.clusters; free = free_clusters v }
+
+-- the lowest clusters for so many pages, on a device without spaces
+abbrev pub first_extents : ℕ → List Extent
+first_extents pages = record { first = header_clusters; count = clusters_for pages } ∷ []
+
+-- What is left after a crash.
+abbrev pub durable_space : Placed → Placed
+durable_space p = record p { space = crashed p.space }
+
+abbrev pub durable : Site → Site
+durable s = on_devices (on_spaces durable_space) (record s { next = 0; clock = 0 })

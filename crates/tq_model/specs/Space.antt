@@ -168,12 +168,28 @@ space_without id s = record s { queues = without id s.queues }
 abbrev pub name_before : List ℕ → List ℕ → Bool
 name_before a b = is_lt (slice_cmp nat_cmp a b)
 
+-- the queues, ascending by name, with one more
+abbrev pub comes_after : List ℕ → Queue → Bool
+comes_after name queue = name_before name queue.name
+
+abbrev pub queues_with : Queue → List Queue → List Queue
+queues_with queue queues = insert queues (position_or_len (comes_after queue.name) queues) queue
+
 -- Eligible and expired
 
 abbrev pub is_free : Holding → Bool
 is_free Free = true
 is_free (Adding owner) = false
 is_free (Taking owner) = false
+
+abbrev pub is_adding : Holding → Bool
+is_adding Free = false
+is_adding (Adding owner) = true
+is_adding (Taking owner) = false
+
+abbrev pub is_persistent : Qos → Bool
+is_persistent Persistent = true
+is_persistent NonPersistent = false
 
 -- at most t, where there is one
 abbrev pub is_past : ℕ → Option ℕ → Bool
@@ -192,3 +208,16 @@ purged_queue t queue = record queue { items = filter (λ item. not (is_expired t
 
 abbrev pub purged : ℕ → Space → Space
 purged t s = record s { queues = map (purged_queue t) s.queues }
+
+-- What a crash leaves of a space: messages that are persistent and that no transaction was adding, all of them free.
+abbrev pub outlives : Item → Bool
+outlives item = is_persistent item.letter.qos && not (is_adding item.holding)
+
+abbrev pub freed : Item → Item
+freed item = record item { holding = Free }
+
+abbrev pub crashed_queue : Queue → Queue
+crashed_queue queue = record queue { items = map freed (filter outlives queue.items) }
+
+abbrev pub crashed : Space → Space
+crashed s = record s { queues = map crashed_queue s.queues }

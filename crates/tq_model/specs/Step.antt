@@ -1,18 +1,45 @@
 -- One step of the serial queue machine: a request and its answer.
-use Rattle.std.specs.Prelude.{◌≡◌, ℕ, ◌+◌, ◌==◌, ◌&&◌, not, nat_lt, nat_le, Bool, true, false, is_some, if◌then◌else◌, List, [], ◌∷◌, length, set, Option, Some, None, unwrap_or, option_map}
+use Rattle.std.specs.Prelude.{◌≡◌, ℕ, ◌+◌, ◌-◌, ◌*◌, ◌==◌, ◌&&◌, not, nat_lt, nat_le, Bool, true, false, is_some, if◌then◌else◌, List, [], ◌∷◌, length, set, map, Option, Some, None, unwrap_or, option_map}
+use Rattle.std.specs.List.{list_any}
+use Rattle.tq_types.specs.declared.identifiers.Arrival.{Arrival}
 use Rattle.tq_model.specs.declared.answer.Identity.{Identity}
+use Rattle.tq_model.specs.declared.answer.SpaceLine.{SpaceLine}
+use Rattle.tq_model.specs.declared.answer.SpacePages.{SpacePages}
+use Rattle.tq_model.specs.declared.answer.LogRoom.{LogRoom}
 use Rattle.tq_model.specs.declared.answer.Answer.{Answer}
 use Rattle.tq_model.specs.declared.answer.Answer.TheVariants as answers
 use Rattle.tq_model.specs.declared.answer.DeviceAnswer.{DeviceAnswer}
 use Rattle.tq_model.specs.declared.answer.DeviceAnswer.TheVariants as device_answers
+use Rattle.tq_model.specs.declared.answer.SpaceAnswer.{SpaceAnswer}
+use Rattle.tq_model.specs.declared.answer.SpaceAnswer.TheVariants as space_answers
 use Rattle.tq_model.specs.declared.answer.Field.{Field}
 use Rattle.tq_model.specs.declared.answer.Field.TheVariants as fields
+use Rattle.tq_model.specs.declared.calls.CallAnswer.{CallAnswer}
+use Rattle.tq_model.specs.declared.calls.Place.TheVariants.{Plain}
+use Rattle.tq_model.specs.declared.calls.EnqueueCall.{EnqueueCall}
+use Rattle.tq_model.specs.declared.calls.EnqueueWords.{EnqueueWords}
+use Rattle.tq_model.specs.declared.calls.DequeueCall.{DequeueCall}
+use Rattle.tq_model.specs.declared.calls.DequeueWords.{DequeueWords}
+use Rattle.tq_types.specs.declared.messages.AskedQos.TheVariants as asked
+use Rattle.tq_model.specs.declared.space.Shape.{Shape}
 use Rattle.tq_model.specs.declared.request.Request.{Request}
-use Rattle.tq_model.specs.declared.request.Request.TheVariants.{Nothing, Boot, Bad, TooLong, Device}
+use Rattle.tq_model.specs.declared.request.Request.TheVariants.{Nothing, Boot, Bad, TooLong, Device, Space as OfSpace, Call as OfCall}
 use Rattle.tq_model.specs.declared.request.DeviceRequest.{DeviceRequest}
 use Rattle.tq_model.specs.declared.request.DeviceRequest.TheVariants.{Create, List as ListDevice}
 use Rattle.tq_model.specs.declared.request.Creation.{Creation}
-use Rattle.tq_model.specs.Site.{Site, Volume, last_epoch, least_clusters, most_clusters, volume_of, is_created, capacity_of, durable, space_count, spaces_on, in_doubt_count}
+use Rattle.tq_model.specs.declared.request.SpaceRequest.{SpaceRequest}
+use Rattle.tq_model.specs.declared.request.SpaceRequest.TheVariants as space_requests
+use Rattle.tq_model.specs.declared.request.SpaceCreation.{SpaceCreation}
+use Rattle.tq_model.specs.declared.request.QueueCreation.{QueueCreation}
+use Rattle.tq_model.specs.declared.request.CallRequest.{CallRequest}
+use Rattle.tq_model.specs.declared.request.CallRequest.TheVariants as call_requests
+use Rattle.tq_model.specs.CallFlags.{wants_id}
+use Rattle.tq_model.specs.Space.{Space, Queue, is_named, overhead_pages, new_space, queues_with}
+use Rattle.tq_model.specs.SpaceForm.{log_bytes, added_length, gone_length, made_length, longest_body, plain_queue}
+use Rattle.tq_model.specs.Moves.{queue_of}
+use Rattle.tq_model.specs.EnqueueStep.{CallOutcome, enqueue_step, enqueue_refusal}
+use Rattle.tq_model.specs.DequeueStep.{dequeue_step, dequeue_refusal}
+use Rattle.tq_model.specs.Site.{Site, Volume, Placed, last_epoch, last_space, least_clusters, most_clusters, most_pages, volume_of, is_created, capacity_of, durable, space_count, space_named, with_space, spaces_on, in_doubt_count, table_with, clusters_for, free_clusters, first_extents}
 
 pub record Outcome : Type 0 where
   pub site : Site
@@ -44,7 +71,7 @@ abbrev pub site_asked : Creation → ℕ
 site_asked c = unwrap_or c.site 1
 
 abbrev pub new_volume : ℕ → Volume
-new_volume clusters = record { clusters = clusters; next_space = 1 }
+new_volume clusters = record { clusters = clusters; next_space = 1; entries = table_with None }
 
 -- the site with that device made anew; with device 0 it begins
 abbrev pub with_new_device : Creation → Site → Site
@@ -73,9 +100,13 @@ create_device c s = unless_refused (creation_refusal c s) s (record {
   answer = answers.Device (device_answers.Created (capacity_of (new_volume c.clusters)));
 })
 
+-- what is said of a space in its device's listing
+abbrev pub space_line : Placed → SpaceLine
+space_line p = record { name = p.name; number = p.space.number; pages = p.pages; extents = p.extents }
+
 abbrev pub listing_of : Option Volume → DeviceAnswer
 listing_of None = device_answers.NotCreated
-listing_of (Some v) = device_answers.Listed (record { capacity = capacity_of v; spaces = spaces_on v })
+listing_of (Some v) = device_answers.Listed (record { capacity = capacity_of v; spaces = map space_line (spaces_on v) })
 
 abbrev pub list_device : ℕ → Site → DeviceAnswer
 list_device dev s = if nat_lt dev (length s.devices) then listing_of (volume_of s dev) else device_answers.NoDevice
@@ -84,6 +115,194 @@ abbrev pub device_step : Site → DeviceRequest → Outcome
 device_step s (Create c) = create_device c s
 device_step s (ListDevice dev) = record { site = s; answer = answers.Device (list_device dev s) }
 
+-- refused with this answer, the site as it was
+abbrev pub refused : Site → Answer → Outcome
+refused s answer = record { site = s; answer = answer }
+
+-- Spaces
+
+abbrev pub shape_asked : SpaceCreation → Shape
+shape_asked c = record { pages = c.pages; queues = c.queues; messages = c.messages; transactions = c.transactions; memory = c.memory; error = c.error }
+
+abbrev pub is_within : ℕ → ℕ → ℕ → Bool
+is_within low high n = nat_le low n && nat_le n high
+
+-- the first field that is out of its limit
+abbrev pub field_refused : SpaceCreation → Option Field
+field_refused c =
+    if not (is_within 1 most_pages c.pages) then Some fields.Pages
+    else (if not (is_within 1 256 c.queues) then Some fields.Queues
+    else (if not (is_within 1 64 c.transactions) then Some fields.Transactions
+    else (if not (is_within 1 8192 c.messages) then Some fields.Messages
+    else (if not (nat_le c.memory 16777216) then Some fields.Memory
+    else None))))
+
+abbrev pub pages_asked : SpaceCreation → SpacePages
+pages_asked c = record { overhead = overhead_pages (shape_asked c); pages = c.pages }
+
+-- A device has no entry for a further space: for now where it has one, and where no ordinal is left.
+abbrev pub is_table_full : Volume → Bool
+is_table_full v = if nat_lt 0 (length (spaces_on v)) then true else nat_le last_space v.next_space
+
+-- the first reason of its device not to make a space
+abbrev pub placing_refusal : SpaceCreation → Volume → Option Answer
+placing_refusal c v =
+    if is_table_full v then Some (answers.Space space_answers.TableFull)
+    else (if nat_lt (free_clusters v) (clusters_for c.pages) then Some (answers.Space (space_answers.Lack (record { need = clusters_for c.pages; free = free_clusters v })))
+    else None)
+
+abbrev pub pages_refusal : SpaceCreation → Volume → Option Answer
+pages_refusal c v = if nat_le c.pages (overhead_pages (shape_asked c)) then Some (answers.Space (space_answers.Small (pages_asked c))) else placing_refusal c v
+
+abbrev pub limits_refusal : SpaceCreation → Option Field → Volume → Option Answer
+limits_refusal c (Some field) v = Some (answers.Device (device_answers.Range field))
+limits_refusal c None v = pages_refusal c v
+
+abbrev pub on_volume_refusal : SpaceCreation → Site → Option Volume → Option Answer
+on_volume_refusal c s None = Some (answers.Device device_answers.NotCreated)
+on_volume_refusal c s (Some v) = if is_some (space_named c.name s) then Some (answers.Space space_answers.Taken) else limits_refusal c (field_refused c) v
+
+-- the first reason not to make a space
+abbrev pub space_refusal : SpaceCreation → Site → Option Answer
+space_refusal c s = if nat_lt c.dev (length s.devices) then on_volume_refusal c s (volume_of s c.dev) else Some (answers.Device device_answers.NoDevice)
+
+-- the number of a space: its ordinal on the device, and the device
+abbrev pub number_of : ℕ → ℕ → ℕ
+number_of dev ordinal = 8 * ordinal + dev
+
+abbrev pub site_number : Site → ℕ
+site_number s = unwrap_or (option_map (λ (i : Identity). i.site) s.identity) 0
+
+abbrev pub placed_new : SpaceCreation → ℕ → ℕ → Placed
+placed_new c site ordinal =
+    record {
+      name = c.name;
+      pages = c.pages;
+      extents = first_extents c.pages;
+      logged = 0;
+      space = new_space (shape_asked c) site (number_of c.dev ordinal);
+    }
+
+abbrev pub with_new_space : SpaceCreation → Site → Volume → Site
+with_new_space c s v = record s { devices = set s.devices c.dev (Some (record v { next_space = v.next_space + 1; entries = table_with (Some (placed_new c (site_number s) v.next_space)) })) }
+
+abbrev pub space_made : SpaceCreation → Site → Option Volume → Outcome
+space_made c s None = refused s (answers.Device device_answers.NotCreated)
+space_made c s (Some v) = record { site = with_new_space c s v; answer = answers.Space (space_answers.Created (record { number = number_of c.dev v.next_space; pages = pages_asked c })) }
+
+-- an outcome, or a refusal that leaves the site as it was
+abbrev pub unless : Option Answer → Site → Outcome → Outcome
+unless (Some refusal) s granted = refused s refusal
+unless None s granted = granted
+
+abbrev pub create_space : SpaceCreation → Site → Outcome
+create_space c s = unless (space_refusal c s) s (space_made c s (volume_of s c.dev))
+
+-- The log
+
+abbrev pub log_room : Placed → ℕ → LogRoom
+log_room p length = record { need = length + 6; free = log_bytes p.pages - p.logged }
+
+-- a payload of so many bytes does not fit
+abbrev pub log_refusal : Placed → ℕ → Option Answer
+log_refusal p length = if nat_lt (log_bytes p.pages) (p.logged + (length + 6)) then Some (answers.LogFull (log_room p length)) else None
+
+-- a space after a change that took a payload of so many bytes
+abbrev pub logged_with : ℕ → Space → Placed → Placed
+logged_with length space p = record p { logged = p.logged + (5 + length); space = space }
+
+-- Queues
+
+-- whether the space has a queue of that name
+abbrev pub has_queue : List ℕ → Space → Bool
+has_queue name s = list_any (is_named name) s.queues
+
+abbrev pub with_queue : List ℕ → Space → Space
+with_queue name s = record s { queues = queues_with (queue_of (plain_queue name) []) s.queues }
+
+abbrev pub queue_refusal : QueueCreation → Placed → Option Answer
+queue_refusal c p =
+    if has_queue c.queue p.space then Some (answers.Space space_answers.Taken)
+    else (if nat_le p.space.limits.queues (length p.space.queues) then Some (answers.Space (space_answers.QueueFull p.space.limits.queues))
+    else log_refusal p (made_length c.queue))
+
+abbrev pub create_queue_in : QueueCreation → Site → Option Placed → Outcome
+create_queue_in c s None = refused s answers.NoEntry
+create_queue_in c s (Some p) = unless (queue_refusal c p) s (record {
+  site = with_space c.space (logged_with (made_length c.queue) (with_queue c.queue p.space)) s;
+  answer = answers.Done;
+})
+
+abbrev pub create_queue : QueueCreation → Site → Outcome
+create_queue c s = create_queue_in c s (space_named c.space s)
+
+abbrev pub space_step : Site → SpaceRequest → Outcome
+space_step s (space_requests.Create c) = create_space c s
+space_step s (space_requests.CreateQueue c) = create_queue c s
+
+-- Calls
+
+-- the call that words without flags of placement, time and quality make
+abbrev pub enqueue_call : EnqueueWords → ℕ → EnqueueCall
+enqueue_call w clock =
+    record {
+      space = w.space;
+      queue = w.queue;
+      notran = w.notran;
+      want_id = wants_id w.flags;
+      place = Plain;
+      priority = 50;
+      available = clock;
+      expiration = None;
+      corr = None;
+      replyq = None;
+      failq = None;
+      qos = asked.Default;
+      reply_qos = asked.Default;
+      body = w.body;
+    }
+
+abbrev pub dequeue_call : DequeueWords → DequeueCall
+dequeue_call w = record { space = w.space; queue = w.queue; notran = w.notran; peek = false; id = None; corr = None; asked = w.flags }
+
+-- the arrival of the next message
+abbrev pub next_arrival : Site → Arrival
+next_arrival s = record { epoch = unwrap_or (option_map (λ (i : Identity). i.epoch) s.identity) 0; number = s.next }
+
+-- A call on a space: refused by the space, refused by its log, or granted, where the site may take one number more.
+abbrev pub call_refusal : Option CallAnswer → Placed → ℕ → Option Answer
+call_refusal (Some refusal) p length = Some (answers.Call refusal)
+call_refusal None p length = log_refusal p length
+
+abbrev pub called : List ℕ → CallOutcome → ℕ → Placed → Site → Outcome
+called name outcome length p s = record { site = with_space name (logged_with length outcome.space) s; answer = answers.Call outcome.answer }
+
+abbrev pub with_next_number : Outcome → Outcome
+with_next_number o = record o { site = record o.site { next = o.site.next + 1 } }
+
+abbrev pub enqueue_in : EnqueueWords → Site → Option Placed → Outcome
+enqueue_in w s None = refused s answers.NoEntry
+enqueue_in w s (Some p) =
+    let call = enqueue_call w s.clock in
+    unless (call_refusal (enqueue_refusal p.space call s.clock) p (added_length w.body)) s
+      (with_next_number (called w.space (enqueue_step p.space call s.clock (next_arrival s)) (added_length w.body) p s))
+
+abbrev pub enqueue : EnqueueWords → Site → Outcome
+enqueue w s = if nat_lt longest_body (length w.body) then refused s (answers.Invalid (length w.body)) else enqueue_in w s (space_named w.space s)
+
+abbrev pub dequeue_in : DequeueWords → Site → Option Placed → Outcome
+dequeue_in w s None = refused s answers.NoEntry
+dequeue_in w s (Some p) =
+    let call = dequeue_call w in
+    unless (call_refusal (dequeue_refusal p.space call s.clock) p gone_length) s (called w.space (dequeue_step p.space call s.clock) gone_length p s)
+
+abbrev pub dequeue : DequeueWords → Site → Outcome
+dequeue w s = dequeue_in w s (space_named w.space s)
+
+abbrev pub call_step : Site → CallRequest → Outcome
+call_step s (call_requests.Enqueue session w) = enqueue w s
+call_step s (call_requests.Dequeue session w) = dequeue w s
+
 -- One step.
 abbrev pub step : Site → Request → Outcome
 step s Nothing = record { site = s; answer = answers.Done }
@@ -91,3 +310,5 @@ step s Boot = boot s
 step s (Bad column) = record { site = s; answer = answers.Syntax column }
 step s TooLong = record { site = s; answer = answers.TooLong }
 step s (Device request) = device_step s request
+step s (OfSpace request) = space_step s request
+step s (OfCall request) = call_step s request

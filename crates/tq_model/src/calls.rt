@@ -107,6 +107,26 @@ impl Flags {
     }
 }
 
+impl PartialEq for Flags {
+    ghost use Rattle.std.specs.Cmp.Lexicographic.{pointwise, lists_per};
+    ghost use Rattle.tq_model.specs.contracts.calls.FlagPartialEq.TheImpl.Laws.{laws-law};
+
+    ghost eq = { pointwise ⟦<Flag as PartialEq>⟧.eq };
+
+    ghost laws = { lists_per laws-law };
+
+    fn eq(&self, other: &Flags) -> bool {
+        self.as_slice() == other.as_slice()
+    }
+}
+
+impl Eq for Flags {
+    ghost use Rattle.std.specs.Cmp.Lexicographic.{lists_equiv};
+    ghost use Rattle.tq_model.specs.contracts.calls.FlagEq.TheImpl.Laws.{laws-law};
+
+    ghost laws = { lists_equiv laws-law };
+}
+
 fn asks_for_id(flag: &Flag) -> bool
     ensures { result ≡ is_message_id flag.now }
 {
@@ -114,7 +134,7 @@ fn asks_for_id(flag: &Flag) -> bool
 }
 
 /// An enqueue as it is written.
-#[derive(Debug, Drop)]
+#[derive(Debug, PartialEq, Eq, Drop)]
 pub struct EnqueueWords {
     pub space: Name,
     pub queue: Name,
@@ -153,7 +173,7 @@ pub struct EnqueueCall {
 }
 
 /// A dequeue as it is written.
-#[derive(Debug, Drop)]
+#[derive(Debug, PartialEq, Eq, Drop)]
 pub struct DequeueWords {
     pub space: Name,
     pub queue: Name,

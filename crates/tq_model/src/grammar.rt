@@ -1,3 +1,6 @@
+use crate::calls::Flags;
+use tq_types::{Body, Name};
+
 /// A verb of the script.
 #[derive(Clone, Copy, Debug, PartialEq, Eq)]
 pub enum Verb {
@@ -5,6 +8,14 @@ pub enum Verb {
     CreateDevice,
     /// `lidl`
     ListDevice,
+    /// `qspacecreate`
+    CreateSpace,
+    /// `qcreate`
+    CreateQueue,
+    /// `tpenqueue`
+    Enqueue,
+    /// `tpdequeue`
+    Dequeue,
 }
 
 /// How a word is spelt.
@@ -12,8 +23,18 @@ pub enum Verb {
 pub enum Kind {
     /// A device number, 0 to 7.
     Device,
+    /// A session, 1 to 32.
+    Session,
     /// A number of 64 bits.
     Number,
+    /// A name.
+    Name,
+    /// A name, or `-` for none.
+    ErrorName,
+    /// Bytes in quotes.
+    Text,
+    /// Names of flags, with `|` between them.
+    Flags,
 }
 
 /// The key of a keyed word.
@@ -21,10 +42,33 @@ pub enum Kind {
 pub enum Key {
     /// `site`
     Site,
+    /// `dev`
+    Dev,
+    /// `pages`
+    Pages,
+    /// `queues`
+    Queues,
+    /// `trans`
+    Transactions,
+    /// `msgs`
+    Messages,
+    /// `error`
+    Error,
+    /// `memory`
+    Memory,
+    /// `flags`
+    Flags,
+    /// `data`
+    Data,
 }
 
 /// What a word spells.
-#[derive(Clone, Debug, PartialEq, Eq, Drop)]
+#[derive(Debug, PartialEq, Eq, Drop)]
 pub enum Value {
     Number(u64),
+    Name(Name),
+    /// None for `-`.
+    ErrorName(Option<Name>),
+    Text(Body),
+    Flags(Flags),
 }

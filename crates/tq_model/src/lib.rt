@@ -4,6 +4,7 @@
 
 mod answer;
 mod calls;
+mod entries;
 mod grammar;
 mod machine;
 mod names;
@@ -14,7 +15,10 @@ mod space;
 #[cfg(test)]
 mod tests;
 
-pub use answer::{Answer, Capacity, DeviceAnswer, Field, Identity, Listing, Readiness};
+pub use answer::{
+    Answer, Capacity, ClusterRoom, DeviceAnswer, Extent, Extents, Field, Identity, Listing,
+    LogRoom, NewSpace, Readiness, SpaceAnswer, SpaceLine, SpaceLines, SpacePages,
+};
 pub use calls::{
     CallAnswer, Delivery, DequeueAsk, DequeueCall, DequeueWords, EnqueueAsk, EnqueueCall,
     EnqueueWords, Flag, Flags, Place,
@@ -23,6 +27,8 @@ pub use grammar::{Key, Kind, Value, Verb};
 pub use machine::Machine;
 pub use names::name_in;
 pub use record::SpaceRecord;
-pub use request::{Creation, DeviceRequest, Request};
+pub use request::{
+    CallRequest, Creation, DeviceRequest, QueueCreation, Request, SpaceCreation, SpaceRequest,
+};
 pub use room::{message_pages, overhead_pages, pages_for};
 pub use space::{Change, QueueDef, Shape, SpaceMove};

@@ -1,6 +1,7 @@
 ghost use Rattle.std.specs.Prelude.{◌≡◌, ◌++◌, OnOk, codes};
 ghost use Rattle.tq_model.specs.Text.{field_text, capacity_text, device_text};
 
+use crate::listings::push_listing;
 use crate::named::push_named;
 use std::alloc::AllocError;
 use tq_model::{Capacity, DeviceAnswer, Field};
@@ -12,6 +13,11 @@ pub fn push_field(text: &mut Vec<u8>, field: Field) -> Result<(), AllocError>
     match field {
         Field::Clusters => text.extend_from_slice(b"clusters")?,
         Field::Site => text.extend_from_slice(b"site")?,
+        Field::Pages => text.extend_from_slice(b"pages")?,
+        Field::Queues => text.extend_from_slice(b"queues")?,
+        Field::Transactions => text.extend_from_slice(b"trans")?,
+        Field::Messages => text.extend_from_slice(b"msgs")?,
+        Field::Memory => text.extend_from_slice(b"memory")?,
     }
     Ok(())
 }
@@ -40,10 +46,7 @@ pub fn push_device(text: &mut Vec<u8>, answer: &DeviceAnswer) -> Result<(), Allo
 {
     match answer {
         DeviceAnswer::Created(capacity) => push_capacity(text, *capacity)?,
-        DeviceAnswer::Listed(listing) => {
-            push_capacity(text, listing.capacity)?;
-            push_named(text, b" spaces=", u64::from(listing.spaces))?;
-        }
+        DeviceAnswer::Listed(listing) => push_listing(text, listing)?,
         DeviceAnswer::NoDevice => text.extend_from_slice(b"NODEVICE")?,
         DeviceAnswer::NotCreated => text.extend_from_slice(b"NOTCREATED")?,
         DeviceAnswer::Exists => text.extend_from_slice(b"EXISTS")?,

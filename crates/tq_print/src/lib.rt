@@ -1,9 +1,13 @@
 //! The bytes of answers, exact against the definition of a line's text.
 #![tactic(auto)]
 
+mod bodies;
+mod calls;
 mod devices;
 mod lines;
+mod listings;
 mod named;
+mod spaces;
 mod starts;
 #[cfg(test)]
 mod tests;

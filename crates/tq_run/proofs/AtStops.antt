@@ -5,7 +5,7 @@ use Rattle.std.proofs.lemmas.List.{append-nil, length-take, take_at}
 use Rattle.tq_host.specs.View.{View, Picture, Stamp}
 use Rattle.tq_model.specs.declared.answer.Answer.{Answer}
 use Rattle.tq_model.specs.declared.request.Request.{Request}
-use Rattle.tq_model.specs.declared.request.Request.TheVariants.{Nothing, Boot, Bad, TooLong, Device}
+use Rattle.tq_model.specs.declared.request.Request.TheVariants.{Nothing, Boot, Bad, TooLong, Device, Space, Call}
 use Rattle.tq_model.specs.Site.{Site, durable}
 use Rattle.tq_model.specs.Step.{step, boot, can_boot}
 use Rattle.tq_model.specs.Text.{line_text}
@@ -38,6 +38,8 @@ made_turn s Boot fit = boot_up s (fit refl)
 made_turn s (Bad column) fit = refl
 made_turn s TooLong fit = refl
 made_turn s (Device request) fit = refl
+made_turn s (Space request) fit = refl
+made_turn s (Call request) fit = refl
 
 module _ (trace : Trace) (g : ℕ) (flat : (at : ℕ) → at < g → rose_at trace at ≡ false) where
   advance_to : (s : Site) (text : List ℕ) (n : ℕ) (r : Request) → (r ≡ Boot → can_boot s ≡ true) → length text < g → advance trace (up s text n) r ≡ up (step s r).site (text ++ line_text n (step s r).answer) (n + 1)

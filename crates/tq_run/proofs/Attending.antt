@@ -9,26 +9,16 @@ use Rattle.tq_model.specs.Text.{line_text}
 use Rattle.tq_model.specs.Grammar.{script_requests}
 use Rattle.tq_model.specs.Reading.{Reading, reading, site_found, combined}
 use Rattle.tq_model.specs.Faulty.{StandFor}
-use Rattle.tq_device.specs.declared.content.DeviceContent.{DeviceContent}
 use Rattle.tq_run.specs.declared.manager.Manager.{Manager}
-use Rattle.tq_device.specs.Content.{content_view}
 use Rattle.tq_run.specs.Counts.{IsQuiet}
-use Rattle.tq_run.specs.Manager.{site_of, site_of_content, IsOn, IsContentOn, is_bootable, IsBooted}
+use Rattle.tq_run.specs.Manager.{site_of, IsOn, is_bootable, IsBooted}
 use Rattle.tq_run.specs.Output.{GivesText, GivesSome, KeepsInput}
 use Rattle.tq_run.specs.Serial.{site_after, lines_text, IsSerial}
-use Rattle.tq_run.proofs.FoundLemmas.{found_blank, found_holds}
+use Rattle.tq_run.proofs.FoundLemmas.{stands_for}
 
 -- the site that is found is that of device 0's image
 pub same_found : (images other : ℕ → List ℕ) → images 0 ≡ other 0 → site_found 1 images ≡ site_found 1 other
 same_found images other same = ap (λ (image : List ℕ). combined (reading 0 image ∷ [])) same
-
-content_stands : (d : Option DeviceContent) (images : ℕ → List ℕ) → IsContentOn d (images 0) → StandFor 1 images (site_of_content d)
-content_stands None images is = found_blank images is
-content_stands (Some d) images is = found_holds images (content_view d) is.reading
-
--- what is on the device stands for the manager's site
-pub stands_for : (m : Manager) (images : ℕ → List ℕ) → IsOn m (images 0) → StandFor 1 images (site_of m)
-stands_for m images is = content_stands m.content images is
 
 -- two texts in a row
 pub both_texts : (first second : List ℕ) (a b c : View) → b.faults ≡ a.faults → GivesText first a b → GivesText second b c → GivesText (first ++ second) a c

@@ -1,5 +1,6 @@
 -- What a stop leaves within a boot.
-use Rattle.std.proofs.Common.{◌≡◌, ◌⊎◌, inl, inr, ⊎_elim, ◌<◌, ◌≤◌, ℕ, ◌+◌, List, [], ◌∷◌, ◌++◌, Option, Some, None, Bool, true, false, cond, Result, refl, sym, ◌∙◌, ap, subst, arith, length}
+use Rattle.std.proofs.Common.{◌≡◌, ◌⊎◌, inl, inr, ⊎_elim, ◌<◌, ◌≤◌, ℕ, ◌+◌, List, [], ◌∷◌, ◌++◌, get_or, Option, Some, None, Bool, true, false, cond, Result, refl, sym, ◌∙◌, ap, subst, arith, length}
+use Rattle.std.specs.Prelude.{option_map}
 use Rattle.std.proofs.lemmas.List.{append-nil}
 use Rattle.tq_host.specs.View.{View, Picture, Streams, IsSettled}
 use Rattle.tq_host.specs.Calls.{IsDeviceCall, IsStill, IsGiving}
@@ -13,44 +14,28 @@ use Rattle.tq_model.specs.declared.request.Request.TheVariants.{Boot}
 use Rattle.tq_model.specs.Text.{line_text}
 use Rattle.tq_host.specs.Within.{Came, Within}
 use Rattle.tq_host.proofs.Within.{weaker, in_a_row, starts}
-use Rattle.tq_model.specs.Site.{Site, durable, blank_site}
-use Rattle.tq_model.specs.Step.{Outcome, step, boot, booted, can_boot, ready}
-use Rattle.tq_model.specs.Reading.{Content, Reading, Blank, Holds, Damaged, reading, site_read, site_found, combined, goes_with}
+use Rattle.tq_model.specs.Site.{Site, durable}
+use Rattle.tq_model.specs.Step.{Outcome, step, boot, booted, with_next_epoch, can_boot, ready}
+use Rattle.tq_model.specs.Reading.{reading, site_found, combined}
+use Rattle.tq_model.specs.Parts.{IsPart}
+use Rattle.tq_model.proofs.Images.{found_durable}
+use Rattle.tq_model.proofs.RecordMoves.{newer_after_boot}
 use Rattle.tq_device.specs.declared.content.DeviceContent.{DeviceContent}
-use Rattle.tq_device.specs.Content.{Stands, IsSameImage, IsAny, IsAnyStep, IsOldOrRaised, content_view, with_raised_epoch}
-use Rattle.tq_device.proofs.Making.{any_steps}
+use Rattle.tq_device.specs.Content.{Stands, IsSameImage, IsAny, IsAnyStep, IsSameButJournal, IsOldOrRaised, raised, part_of}
+use Rattle.tq_device.specs.declared.content.NamedSpace.{NamedSpace}
+use Rattle.tq_spacefile.specs.declared.file.SpaceFile.{SpaceFile}
+use Rattle.tq_spacefile.specs.File.{HasSpace, IsFile, held_in, logged_in}
 use Rattle.tq_run.specs.declared.manager.Manager.{Manager}
-use Rattle.tq_run.specs.Manager.{site_of, IsBooted}
+use Rattle.tq_run.specs.Manager.{site_of, site_at, placed_in, IsBooted, IsOn, IsFileAt, IsFileOn, IsLoaded, loaded_site}
 use Rattle.tq_run.specs.Output.{GivesText, GivesSome}
 use Rattle.tq_run.specs.Stops.{ImageStands, IsEither, AreOn, HasNoNewImage, IsAtLine, IsStopped}
-use Rattle.tq_run.proofs.FoundLemmas.{combined_holds, found_holds}
+use Rattle.tq_run.proofs.FoundLemmas.{durable_at, image_at, image_bare, loaded_found, part_of_stands}
+use Rattle.tq_run.proofs.OfferedFiles.{file_kept, file_later, file_epochs}
 use Rattle.tq_run.proofs.Attending.{same_found}
-use Rattle.tq_run.proofs.Stopping.{first_device, one_line, longer, some_longer, at_next}
-
--- another step and another property of the images
-pub other_step : (dev : ℕ) (S T : List ℕ → List ℕ → Type 0) (Q P : List ℕ → Type 0) (a b : View) → ((i c : List ℕ) → a.may_leave dev i → S i c → Q c → T i c × P c) → Within dev S Q a b → Within dev T P a b
-other_step dev S T Q P a b to within =
-    let came : (c : List ℕ) → Came dev S Q a c → Came dev T P a c = λ c is. let both = to is.image c is.was is.step is.now in record { image = is.image; was = is.was; step = both.0; now = both.1 } in
-    record {
-      later = within.later;
-      own = λ c may. came c (within.own c may);
-      others = within.others;
-      others_read = within.others_read;
-      streams = within.streams;
-      pictures = λ t p le left. ⊎_elim (λ old. inl old) (λ is. inr (record { own = came (p.images dev) is.own; others = is.others; output = is.output })) (within.pictures t p le left);
-    }
+use Rattle.tq_run.proofs.Stopping.{any_steps, other_step, first_device, one_line, longer, some_longer, at_next}
 
 some_same : (a b : Site) → Some a ≡ Some b → a ≡ b
 some_same a b e = cc
-
--- a site that is found is durable
-pub found_durable : (images : ℕ → List ℕ) (s : Site) → site_found 1 images ≡ Some s → durable s ≡ s
-found_durable images s is = pick (reading 0 (images 0)) is
-  where
-    pick : (r : Reading) → combined (r ∷ []) ≡ Some s → durable s ≡ s
-    pick Blank e = subst (λ (x : Site). durable x ≡ x) (some_same (site_read (Blank ∷ [])) s e) refl
-    pick (Holds c) e = subst (λ (x : Site). durable x ≡ x) (some_same (site_read (Holds c ∷ [])) s (sym (combined_holds c) ∙ e)) refl
-    pick Damaged e = absurd (cc)
 
 -- an image that is what is read
 pub read_stands : (images : ℕ → List ℕ) (s : Site) (image : List ℕ) → site_found 1 images ≡ Some s → image ≡ images 0 → ImageStands s image
@@ -63,16 +48,90 @@ looking s a b settled is within = other_step 0 IsSameImage IsAnyStep IsAny (Imag
 pub only_looking : (s t : Site) (a b : View) → IsSettled 0 a → site_found 1 a.reads ≡ Some s → Within 0 IsSameImage IsAny a b → Within 0 IsAnyStep (IsEither s t) a b
 only_looking s t a b settled is within = weaker 0 IsAnyStep any_steps (ImageStands s) (IsEither s t) a b (λ i c was stands. inl stands) (looking s a b settled is within)
 
+-- what was loaded, and a boot of it
+site_durable : (d : DeviceContent) (named : Option NamedSpace) (file : Option SpaceFile) (image : List ℕ) → IsFileAt d named file image → durable (site_at d (placed_in named file) 0) ≡ site_at d (placed_in named file) 0
+site_durable d None None image on = refl
+site_durable d None (Some f) image on = absurd on
+site_durable d (Some n) None image on = absurd on
+site_durable d (Some n) (Some f) image on = durable_at d n (held_in f) (logged_in f) 0 f.plain
+
+loaded_durable : (d : DeviceContent) (file : Option SpaceFile) (image : List ℕ) → IsLoaded d file image → durable (loaded_site d file) ≡ loaded_site d file
+loaded_durable d file image is = site_durable d d.named file image is.space
+
+-- the site of the next epoch
+pub booted_is : (d : DeviceContent) (file : Option SpaceFile) (image : List ℕ) → IsLoaded d file image → booted (loaded_site d file) ≡ loaded_site (raised d) file
+booted_is d file image is = ap (λ (s : Site). record s { identity = option_map with_next_epoch s.identity }) (loaded_durable d file image is)
+
+-- an image has what was loaded, whatever its selectors
+part_at : (d : DeviceContent) (named : Option NamedSpace) (file : Option SpaceFile) (image : List ℕ) → d.named ≡ named → IsPart (part_of d) image → IsFileAt d named file image → ImageStands (site_at d (placed_in named file) 0) image
+part_at d None None image named is on = image_bare d 0 image is named
+part_at d None (Some f) image named is on = absurd on
+part_at d (Some n) None image named is on = absurd on
+part_at d (Some n) (Some f) image named is on = image_at d n (held_in f) (logged_in f) 0 image is named f.plain (subst (λ p. HasSpace p d.epoch (held_in f) (logged_in f) image) on.0 on.1.has)
+
+part_stands : (d : DeviceContent) (file : Option SpaceFile) (image : List ℕ) → IsPart (part_of d) image → IsFileAt d d.named file image → ImageStands (loaded_site d file) image
+part_stands d file image is on = part_at d d.named file image refl is on
+
+pub loaded_stands : (d : DeviceContent) (file : Option SpaceFile) (image : List ℕ) → IsLoaded d file image → ImageStands (loaded_site d file) image
+loaded_stands d file image is = part_stands d file image (part_of_stands d image is.stands) is.space
+
+-- the space of an image with another journal
+kept_at : (d : DeviceContent) (named : Option NamedSpace) (file : Option SpaceFile) (old new : List ℕ) → IsSameButJournal old new → IsFileAt d named file old → IsFileAt d named file new
+kept_at d None None old new same on = tt
+kept_at d None (Some f) old new same on = absurd on
+kept_at d (Some n) None old new same on = absurd on
+kept_at d (Some n) (Some f) old new same on = (on.0, file_kept f d.epoch old new same.size (λ i le. same.bytes i (inr (omega (arith, le))) (inr (omega (arith, le)))) on.1)
+
+-- and the same with the next epoch
+next_at : (d : DeviceContent) (named : Option NamedSpace) (file : Option SpaceFile) (image : List ℕ) → IsFileAt d named file image → IsFileAt (raised d) named file image
+next_at d None None image on = tt
+next_at d None (Some f) image on = absurd on
+next_at d (Some n) None image on = absurd on
+next_at d (Some n) (Some f) image on = (on.0, file_later f d.epoch (d.epoch + 1) image (omega arith) on.1)
+
+-- no message of the space is of the next epoch
+newer_at : (d : DeviceContent) (named : Option NamedSpace) (file : Option SpaceFile) (image : List ℕ) → IsFileAt d named file image → IsFileOn (raised d) named file 0 image
+newer_at d None None image on = tt
+newer_at d None (Some f) image on = absurd on
+newer_at d (Some n) None image on = absurd on
+newer_at d (Some n) (Some f) image on = record { place = on.0; file = file_later f d.epoch (d.epoch + 1) image (omega arith) on.1; newer = newer_after_boot d.epoch (d.epoch + 1) (held_in f) (omega arith) (file_epochs f d.epoch image on.1) }
+
+-- what the manager holds after the epoch was raised
+pub raised_on : (d : DeviceContent) (file : Option SpaceFile) (old new : List ℕ) → IsSameButJournal old new → Stands (raised d) new → IsLoaded d file old → IsOn (record { content = Some (raised d); file = file; next = 0 }) new
+raised_on d file old new same stands loaded = record { stands = stands; space = newer_at d d.named file new (kept_at d d.named file old new same loaded.space) }
+
+-- the images while the epoch is raised
+pub raising : (d : DeviceContent) (file : Option SpaceFile) (a b : View) → ((i : List ℕ) → a.may_leave 0 i → IsLoaded d file i) → Within 0 IsSameButJournal (IsOldOrRaised d) a b → Within 0 IsAnyStep (IsEither (loaded_site d file) (booted (loaded_site d file))) a b
+raising d file a b loaded within = other_step 0 IsSameButJournal IsAnyStep (IsOldOrRaised d) (IsEither (loaded_site d file) (booted (loaded_site d file))) a b (λ i c was same is. (tt, image_of i c (loaded i was) same is)) within
+  where
+    image_of : (i c : List ℕ) → IsLoaded d file i → IsSameButJournal i c → IsOldOrRaised d c → IsEither (loaded_site d file) (booted (loaded_site d file)) c
+    image_of i c on same is =
+        let kept : IsFileAt d d.named file c = kept_at d d.named file i c same on.space in
+        ⊎_elim
+        (λ old. inl (part_stands d file c (record { size = old.size; tests = old.tests; part = old.part }) kept))
+        (λ new. inr (subst (λ (s : Site). ImageStands s c) (sym (booted_is d file i on)) (part_stands (raised d) file c (record { size = new.size; tests = new.tests; part = new.part }) (next_at d d.named file c kept)))) is
+
 -- and then its epoch is raised
-pub looking_raising : (d : DeviceContent) (s : Site) (a b c : View) → IsSettled 0 a → site_found 1 a.reads ≡ Some s → Stands d (a.reads 0) → Within 0 IsSameImage IsAny a b → HasNoNewImage a b
-    → (((i : List ℕ) → b.may_leave 0 i → Stands d i) → Within 0 IsAnyStep (IsOldOrRaised (content_view d)) b c) → Within 0 IsAnyStep (IsEither s (booted s)) a c
-looking_raising d s a b c settled is stands looked none raised =
-    let held : site_read (Holds (content_view d) ∷ []) ≡ s = some_same _ s (sym (found_holds a.reads (content_view d) stands.reading) ∙ is) in
+pub looking_raising : (d : DeviceContent) (file : Option SpaceFile) (s : Site) (a b c : View) → IsSettled 0 a → site_found 1 a.reads ≡ Some s → IsLoaded d file (a.reads 0) → Within 0 IsSameImage IsAny a b → HasNoNewImage a b
+    → (((i : List ℕ) → b.may_leave 0 i → IsLoaded d file i) → Within 0 IsAnyStep (IsEither (loaded_site d file) (booted (loaded_site d file))) b c) → Within 0 IsAnyStep (IsEither s (booted s)) a c
+looking_raising d file s a b c settled is loaded looked none raised =
+    let held : loaded_site d file ≡ s = some_same _ s (sym (loaded_found d file a.reads loaded) ∙ is) in
     in_a_row 0 IsAnyStep any_steps (IsEither s (booted s)) a b c (only_looking s (booted s) a b settled is looked)
-    (weaker 0 IsAnyStep any_steps (IsOldOrRaised (content_view d)) (IsEither s (booted s)) b c (λ i image was has. ⊎_elim
-    (λ old. inl (found_holds (λ k. image) (content_view d) old ∙ ap (λ (x : Site). Some (durable x)) held))
-    (λ new. inr (found_holds (λ k. image) (with_raised_epoch (content_view d)) new ∙ ap (λ (x : Site). Some (durable (booted x))) held)) has)
-    (raised (λ i may. subst (λ (l : List ℕ). Stands d l) (sym (settled i (none 0 i may))) stands)))
+    (subst (λ (x : Site). Within 0 IsAnyStep (IsEither x (booted x)) b c) held (raised (λ i may. subst (λ (l : List ℕ). IsLoaded d file l) (sym (settled i (none 0 i may))) loaded)))
+
+pub settled_from : (a b : View) → IsSettled 0 a → HasNoNewImage a b → b.reads 0 ≡ a.reads 0 → IsSettled 0 b
+settled_from a b settled none same = λ i may. settled i (none 0 i may) ∙ sym same
+
+-- while a settled device is read, and then booted
+pub looking_booting : (s : Site) (a b c : View) → IsSettled 0 a → site_found 1 a.reads ≡ Some s → Within 0 IsSameImage IsAny a b → HasNoNewImage a b → b.reads 0 ≡ a.reads 0
+    → (IsSettled 0 b → (found : Site) → site_found 1 b.reads ≡ Some found → Within 0 IsAnyStep (IsEither found (booted found)) b c) → Within 0 IsAnyStep (IsEither s (booted s)) a c
+looking_booting s a b c settled is looked none same boots =
+    in_a_row 0 IsAnyStep any_steps (IsEither s (booted s)) a b c (only_looking s (booted s) a b settled is looked)
+    (boots (settled_from a b settled none same) s (same_found b.reads a.reads same ∙ is))
+
+-- a boot, from an earlier moment at which the device read the same
+pub booted_from : (m : Manager) (a b c : View) → b.reads 0 ≡ a.reads 0 → IsBooted m b c → IsBooted m a c
+booted_from m a b c same boot = record { found = boot.found; stood = sym (same_found b.reads a.reads same) ∙ boot.stood; raisable = boot.raisable; site = boot.site; stands = boot.stands }
 
 -- before anything is done
 pub at_first : (found : Site) (requests : List Request) (a b : View) (p : Picture) → ImageStands found (p.images 0) → p.output ≡ a.streams.output → length a.streams.output ≤ length b.streams.output → IsStopped found 0 requests a b p

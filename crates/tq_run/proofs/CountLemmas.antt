@@ -1,5 +1,6 @@
 -- How the counts of the parts of a run add up.
-use Rattle.std.proofs.Common.{◌≡◌, ◌≤◌, ◌<◌, ℕ, Result, Ok, Err, refl, sym, ◌∙◌, ap, subst, OnOk, OnErr, arith}
+use Rattle.std.proofs.Common.{◌≡◌, ◌≤◌, ◌<◌, ℕ, Result, Ok, Err, refl, sym, ◌∙◌, ap, subst, IfOk, OnOk, OnErr, arith}
+use Rattle.std.specs.Result.{MatchResult, IsErrAnd}
 use Rattle.tq_host.specs.View.{View}
 use Rattle.tq_host.specs.Calls.{HasCauseOf}
 use Rattle.tq_run.specs.declared.status.Status.{Status}
@@ -35,6 +36,23 @@ on_ok (Err e) G f = tt
 
 pub of_ok : {T E : Type 0} (r : Result T E) (x : T) (A : Type 0) → r ≡ Ok x → OnOk r A → A
 of_ok {T} {E} r x A e h = subst (λ (q : Result T E). OnOk q A) e h
+
+-- what answered Ok before its error was mapped
+pub ok_before : {T E F : Type 0} (r : Result T E) (q : Result T F) (Q : E → F → Type 0) (x : T) → MatchResult r (λ y. q ≡ Ok y) (λ e. IsErrAnd q (Q e)) → q ≡ Ok x → r ≡ Ok x
+ok_before (Ok y) q Q x cases is = ap Ok (same y x (sym cases ∙ is))
+  where
+    same : {T F : Type 0} (y x : T) → ◌≡◌ {A = Result T F} (Ok y) (Ok x) → y ≡ x
+    same y x e = cc
+ok_before {T} {E} {F} (Err e) q Q x cases is = absurd (subst (λ (r : Result T F). IsErrAnd r (Q e)) is cases)
+
+-- what follows where it answered Ok
+pub on_mapped : {T E F : Type 0} (r : Result T E) (q : Result T F) (Q : E → F → Type 0) (P : T → Type 0) → MatchResult r (λ y. q ≡ Ok y) (λ e. IsErrAnd q (Q e)) → ((x : T) → r ≡ Ok x → P x) → IfOk q P
+on_mapped {T} {E} {F} (Ok y) q Q P cases f = subst (λ (r : Result T F). IfOk r P) (sym cases) (f y refl)
+on_mapped {T} {E} {F} (Err e) q Q P cases f = of_err q cases
+  where
+    of_err : (r : Result T F) → IsErrAnd r (Q e) → IfOk r P
+    of_err (Ok x) is = absurd is
+    of_err (Err d) is = tt
 
 steady_cause : (failed : Type 0) (before now : ℕ) → now ≡ before → (failed → ⊥) → HasCauseOf failed before now
 steady_cause failed before now same never = record { later = omega arith; rose = λ f. absurd (never f); only = λ lt. absurd (omega arith) }

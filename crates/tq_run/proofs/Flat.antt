@@ -8,7 +8,7 @@ use Rattle.tq_host.specs.View.{View, Stamp}
 use Rattle.tq_model.specs.declared.answer.Answer.{Answer}
 use Rattle.tq_model.specs.declared.answer.Answer.TheVariants as answers
 use Rattle.tq_model.specs.declared.request.Request.{Request}
-use Rattle.tq_model.specs.declared.request.Request.TheVariants.{Nothing, Boot, Bad, TooLong, Device}
+use Rattle.tq_model.specs.declared.request.Request.TheVariants.{Nothing, Boot, Bad, TooLong, Device, Space, Call}
 use Rattle.tq_model.specs.Site.{Site, durable}
 use Rattle.tq_model.specs.Step.{Outcome, step, boot, can_boot, booted, ready}
 use Rattle.tq_model.specs.Text.{line_text}
@@ -54,6 +54,8 @@ steady_is s Boot ne = absurd (ne refl)
 steady_is s (Bad column) ne = refl
 steady_is s TooLong ne = refl
 steady_is s (Device request) ne = refl
+steady_is s (Space request) ne = refl
+steady_is s (Call request) ne = refl
 
 abbrev pub up : Site → List ℕ → ℕ → Progress
 up s text n = record { condition = Up s; text = text; line = n }

@@ -1,59 +1,134 @@
--- The site for which one device stands, by its reading.
-use Rattle.std.proofs.Common.{◌≡◌, ◌≢◌, ◌<◌, ◌≤◌, ℕ, ◌+◌, List, [], ◌∷◌, refl, sym, ◌∙◌, ap, subst, arith, Option, Some, None, Bool, true, false, length, cond}
-use Rattle.std.specs.Prelude.{◌==◌, nat_lt, ◌&&◌, if◌then◌else◌}
+-- The site for which one device stands, by what is on it.
+use Rattle.std.proofs.Common.{◌≡◌, ◌≢◌, ◌⊎◌, ◌<◌, ◌≤◌, ℕ, ◌+◌, ◌*◌, List, [], ◌∷◌, refl, sym, ◌∙◌, ap, subst, arith, Option, Some, None, Bool, true, false, length, cond}
+use Rattle.std.specs.Prelude.{◌==◌, nat_lt, ◌&&◌, if◌then◌else◌, option_map}
 use Rattle.std.proofs.lemmas.Bool.Decides.{nat_tests}
 use Rattle.tq_host.specs.View.{View}
-use Rattle.tq_model.specs.Site.{Site, blank_site, durable}
+use Rattle.tq_model.specs.Space.{Space, crashed}
+use Rattle.tq_model.specs.Moves.{IndexedSpace, space_of}
+use Rattle.tq_model.specs.Plain.{IsPlainSpace}
+use Rattle.tq_model.specs.Parts.{IsPart}
+use Rattle.tq_model.specs.Site.{Site, Placed, durable}
 use Rattle.tq_model.specs.Step.{booted, can_boot}
-use Rattle.tq_model.specs.Reading.{Content, Reading, Blank, Holds, Damaged, reading, is_whole, content_of, site_read, site_found, combined, goes_with}
+use Rattle.tq_model.specs.Reading.{Reading, Blank, Holds, Damaged, reading, site_read, site_found, placed_as, content_with}
+use Rattle.tq_model.specs.Reading as reads
 use Rattle.tq_model.specs.Faulty.{StandFor}
+use Rattle.tq_model.proofs.Images.{short_reading, damaged_parts, bare_reading, space_reading, space_damage, found_blank, found_holds, found_damaged}
+use Rattle.tq_model.proofs.RecordMoves.{crashed_plain}
 use Rattle.tq_device.specs.declared.content.DeviceContent.{DeviceContent}
+use Rattle.tq_device.specs.declared.content.NamedSpace.{NamedSpace}
+use Rattle.tq_device.specs.Content.{Stands, part_of, named_view}
+use Rattle.tq_spacefile.specs.declared.file.SpaceFile.{SpaceFile}
+use Rattle.tq_spacefile.specs.File.{HasSpace, IsFile, place_in, held_in, logged_in, has_space}
 use Rattle.tq_run.specs.declared.manager.Manager.{Manager}
-use Rattle.tq_device.specs.Content.{content_view, with_raised_epoch, Stands}
-use Rattle.tq_run.specs.Manager.{site_of, IsOn, is_bootable, IsBooted, IsRaised}
+use Rattle.tq_run.specs.Manager.{site_of, site_with, site_at, placed_at, placed_of, placed_in, place_of, IsOn, IsContentOn, IsFileOn, IsDeviceOn, IsSpaceOn, IsFileAt, IsLoaded, loaded_site, is_bootable, IsBooted, IsRaised}
+use Rattle.tq_run.specs.Stops.{ImageStands}
 
-same_site : (n : ℕ) → (n == n) ≡ true
-same_site n = grind (arith, nat_tests)
+pub part_of_stands : (d : DeviceContent) (image : List ℕ) → Stands d image → IsPart (part_of d) image
+part_of_stands d image is = record { size = is.size; tests = is.tests; part = is.part }
 
-pub found_blank : (images : ℕ → List ℕ) → reading 0 (images 0) ≡ Blank → site_found 1 images ≡ Some (blank_site 1)
-found_blank images is = ap (λ (r : Reading). combined (r ∷ [])) is
+-- A device without a space
 
-pub combined_holds : (c : Content) → combined (Holds c ∷ []) ≡ Some (site_read (Holds c ∷ []))
-combined_holds c = ap (λ (b : Bool). cond (b && true) (Some (site_read (Holds c ∷ []))) None) (same_site c.site)
+pub bare_found : (d : DeviceContent) (images : ℕ → List ℕ) → IsPart (part_of d) (images 0) → d.named ≡ None → site_found 1 images ≡ Some (site_at d None 0)
+bare_found d images is none = found_holds images (content_with (part_of d) None) (bare_reading (part_of d) (images 0) is (ap (option_map named_view) none))
 
-pub found_holds : (images : ℕ → List ℕ) (c : Content) → reading 0 (images 0) ≡ Holds c → site_found 1 images ≡ Some (site_read (Holds c ∷ []))
-found_holds images c is = ap (λ (r : Reading). combined (r ∷ [])) is ∙ combined_holds c
+-- A device with a space
 
-pub found_damaged : (images : ℕ → List ℕ) → reading 0 (images 0) ≡ Damaged → site_found 1 images ≡ None
-found_damaged images is = ap (λ (r : Reading). combined (r ∷ [])) is
+pub space_found : (d : DeviceContent) (n : NamedSpace) (held : IndexedSpace) (logged : ℕ) (images : ℕ → List ℕ) → IsPart (part_of d) (images 0) → d.named ≡ Some n → HasSpace (place_of d n) d.epoch held logged (images 0)
+    → site_found 1 images ≡ Some (site_at d (Some (placed_at n logged held)) 0)
+space_found d n held logged images is named has =
+    let r : reads.Replayed = record { payloads = has.payloads; space = held } in
+    found_holds images (content_with (part_of d) (Some (placed_as (named_view n) r))) (space_reading (part_of d) (named_view n) r (images 0) is (ap (option_map named_view) named) has.page has.reads)
+    ∙ ap (λ k. Some (site_at d (Some (placed_at n k held)) 0)) (sym has.ends)
 
--- a device that reads blank is shorter than its header
-pub blank_is_short : (image : List ℕ) → reading 0 image ≡ Blank → length image < 131072
-blank_is_short image is = short (nat_lt (length image) 131072) refl (is_whole 0 image) is
+-- a crash leaves the site of a plain space but for the number of the next message
+pub durable_at : (d : DeviceContent) (n : NamedSpace) (held : IndexedSpace) (logged next : ℕ) → IsPlainSpace held → durable (site_at d (Some (placed_at n logged held)) next) ≡ site_at d (Some (placed_at n logged held)) 0
+durable_at d n held logged next plain = ap (λ (s : Space). site_at d (Some (record (placed_at n logged held) { space = s })) 0) (crashed_plain held plain)
+
+pub image_at : (d : DeviceContent) (n : NamedSpace) (held : IndexedSpace) (logged next : ℕ) (image : List ℕ) → IsPart (part_of d) image → d.named ≡ Some n → IsPlainSpace held → HasSpace (place_of d n) d.epoch held logged image
+    → ImageStands (site_at d (Some (placed_at n logged held)) next) image
+image_at d n held logged next image is named plain has = space_found d n held logged (λ k. image) is named has ∙ ap (λ (s : Site). Some s) (sym (durable_at d n held logged next plain))
+
+pub image_bare : (d : DeviceContent) (next : ℕ) (image : List ℕ) → IsPart (part_of d) image → d.named ≡ None → ImageStands (site_at d None next) image
+image_bare d next image is none = bare_found d (λ k. image) is none
+
+-- What the manager holds
+
+on_device : (d : DeviceContent) (named : Option NamedSpace) (file : Option SpaceFile) (next : ℕ) (images : ℕ → List ℕ) → d.named ≡ named → IsPart (part_of d) (images 0) → IsFileOn d named file next (images 0)
+    → site_found 1 images ≡ Some (durable (site_at d (placed_in named file) next))
+on_device d None None next images named is on = bare_found d images is named
+on_device d None (Some f) next images named is on = absurd on
+on_device d (Some n) None next images named is on = absurd on
+on_device d (Some n) (Some f) next images named is on =
+    let place = on.place in
+    space_found d n (held_in f) (logged_in f) images is named (subst (λ p. HasSpace p d.epoch (held_in f) (logged_in f) (images 0)) place on.file.has)
+    ∙ ap (λ (s : Site). Some s) (sym (durable_at d n (held_in f) (logged_in f) next f.plain))
+
+content_found : (content : Option DeviceContent) (file : Option SpaceFile) (next : ℕ) (images : ℕ → List ℕ) → IsContentOn content file next (images 0) → StandFor 1 images (site_with content file next)
+content_found None None next images is = found_blank images (short_reading (images 0) is)
+content_found None (Some f) next images is = absurd is
+content_found (Some d) file next images is = on_device d d.named file next images refl (part_of_stands d (images 0) is.stands) is.space
+
+-- what is on the device stands for the manager's site
+pub stands_for : (m : Manager) (images : ℕ → List ℕ) → IsOn m (images 0) → StandFor 1 images (site_of m)
+stands_for m images is = content_found m.content m.file m.next images is
+
+pub image_stands : (m : Manager) (image : List ℕ) → IsOn m image → ImageStands (site_of m) image
+image_stands m image is = stands_for m (λ d. image) is
+
+-- a device that is created
+pub content_stands : (m : Manager) (d : DeviceContent) (image : List ℕ) → m.content ≡ Some d → IsOn m image → Stands d image
+content_stands m d image is on = (subst (λ (content : Option DeviceContent). IsContentOn content m.file m.next image) is on).stands
+
+-- What was loaded
+
+loaded_at : (d : DeviceContent) (named : Option NamedSpace) (file : Option SpaceFile) (images : ℕ → List ℕ) → d.named ≡ named → IsPart (part_of d) (images 0) → IsFileAt d named file (images 0)
+    → site_found 1 images ≡ Some (site_at d (placed_in named file) 0)
+loaded_at d None None images named is on = bare_found d images is named
+loaded_at d None (Some f) images named is on = absurd on
+loaded_at d (Some n) None images named is on = absurd on
+loaded_at d (Some n) (Some f) images named is on = space_found d n (held_in f) (logged_in f) images is named (subst (λ p. HasSpace p d.epoch (held_in f) (logged_in f) (images 0)) on.0 on.1.has)
+
+pub loaded_found : (d : DeviceContent) (file : Option SpaceFile) (images : ℕ → List ℕ) → IsLoaded d file (images 0) → site_found 1 images ≡ Some (loaded_site d file)
+loaded_found d file images is = loaded_at d d.named file images refl (part_of_stands d (images 0) is.stands) is.space
+
+pub blank_is_short : (m : Manager) (image : List ℕ) → m.content ≡ None → IsOn m image → length image < 131072
+blank_is_short m image blank on = without_file m.file (subst (λ (content : Option DeviceContent). IsContentOn content m.file m.next image) blank on)
   where
-    short : (b : Bool) → nat_lt (length image) 131072 ≡ b → (whole : Bool) → cond b Blank (cond whole (Holds (content_of image)) Damaged) ≡ Blank → length image < 131072
-    short true e whole same = grind (arith, nat_tests)
-    short false e true same = cc
-    short false e false same = cc
+    without_file : (file : Option SpaceFile) → IsContentOn None file m.next image → length image < 131072
+    without_file None short = short
+    without_file (Some f) is = absurd is
 
-pub booted_blank : (old new : View) → reading 0 (old.reads 0) ≡ Blank → new.reads 0 ≡ old.reads 0 → IsBooted (record { content = None }) old new
-booted_blank old new is same = record { found = blank_site 1; stood = found_blank old.reads is; raisable = refl; site = refl; stands = subst (λ (l : List ℕ). reading 0 l ≡ Blank) (sym same) is }
+pub blank_found : (images : ℕ → List ℕ) → length (images 0) < 131072 → site_found 1 images ≡ Some (site_with None None 0)
+blank_found images lt = found_blank images (short_reading (images 0) lt)
+
+-- Damage
+
+pub damaged_device : (images : ℕ → List ℕ) → (131072 ≤ length (images 0)) × (reads.hold_all (reads.device_tests 0 (images 0)) ≡ false) → site_found 1 images ≡ None
+damaged_device images is = found_damaged images (damaged_parts (images 0) is.0 is.1)
+
+pub damaged_space : (d : DeviceContent) (n : NamedSpace) (images : ℕ → List ℕ) → Stands d (images 0) → d.named ≡ Some n → has_space (place_of d n) d.epoch (images 0) ≡ false → site_found 1 images ≡ None
+damaged_space d n images is named none = found_damaged images (space_damage (part_of d) (named_view n) (images 0) (part_of_stands d (images 0) is) (ap (option_map named_view) named) none)
+
+-- Boots
+
+pub booted_blank : (old new : View) → length (old.reads 0) < 131072 → new.reads 0 ≡ old.reads 0 → IsBooted (record { content = None; file = None; next = 0 }) old new
+booted_blank old new short same = record { found = site_with None None 0; stood = blank_found old.reads short; raisable = refl; site = refl; stands = subst (λ (l : List ℕ). length l < 131072) (sym same) short }
 
 below_last : (n : ℕ) → n < 4294967295 → nat_lt n 4294967295 ≡ true
 below_last n lt = grind (arith, nat_tests)
 
-pub booted_raised : (d : DeviceContent) (m : Manager) (old new : View) → Stands d (old.reads 0) → IsRaised d m (new.reads 0) → IsBooted m old new
-booted_raised d m old new stands raised = record {
-  found = site_read (Holds (content_view d) ∷ []);
-  stood = found_holds old.reads (content_view d) stands.reading;
+pub booted_raised : (d : DeviceContent) (file : Option SpaceFile) (m : Manager) (old new : View) → IsLoaded d file (old.reads 0) → IsRaised d file m (new.reads 0) → IsBooted m old new
+booted_raised d file m old new loaded raised = record {
+  found = loaded_site d file;
+  stood = loaded_found d file old.reads loaded;
   raisable = below_last d.epoch raised.below;
   site = raised.site;
   stands = raised.stands;
 }
 
 -- where the last epoch stands, there is no boot
-pub last_not_bootable : (images : ℕ → List ℕ) (d : DeviceContent) → Stands d (images 0) → d.epoch ≡ 4294967295 → is_bootable (site_found 1 images) ≡ false
-last_not_bootable images d stands e = ap is_bootable (found_holds images (content_view d) stands.reading) ∙ ap (λ n. nat_lt n 4294967295) e
+pub last_not_bootable : (images : ℕ → List ℕ) (d : DeviceContent) (file : Option SpaceFile) → IsLoaded d file (images 0) → d.epoch ≡ 4294967295 → is_bootable (site_found 1 images) ≡ false
+last_not_bootable images d file is e = ap is_bootable (loaded_found d file images is) ∙ ap (λ n. nat_lt n 4294967295) e
 
-pub damaged_not_bootable : (images : ℕ → List ℕ) → reading 0 (images 0) ≡ Damaged → is_bootable (site_found 1 images) ≡ false
-damaged_not_bootable images is = ap is_bootable (found_damaged images is)
+pub none_not_bootable : (images : ℕ → List ℕ) → site_found 1 images ≡ None → is_bootable (site_found 1 images) ≡ false
+none_not_bootable images none = ap is_bootable none

@@ -1,5 +1,5 @@
 -- The status of a run, by how it ended.
-use Rattle.std.proofs.Common.{◌≡◌, ◌≢◌, ◌≤◌, ◌<◌, ℕ, zero, suc, ◌+◌, List, [], ◌∷◌, ◌++◌, Option, Some, None, Bool, true, false, Result, Ok, Err, OnOk, refl, sym, ◌∙◌, ap, subst, arith, length, get_or, length-append}
+use Rattle.std.proofs.Common.{◌≡◌, ◌≢◌, ◌⊎◌, inl, inr, ◌≤◌, ◌<◌, ℕ, zero, suc, ◌+◌, List, [], ◌∷◌, ◌++◌, Option, Some, None, Bool, true, false, Result, Ok, Err, OnOk, refl, sym, ◌∙◌, ap, subst, arith, length, get_or, length-append}
 use Rattle.std.specs.Prelude.{nat_lt}
 use Rattle.std.proofs.lemmas.Bool.Decides.{nat_tests}
 use Rattle.std.proofs.lemmas.List.{append-nil, append_cancel_left}
@@ -45,15 +45,15 @@ line_0 ended start now some why added is rose =
 unlike : (b : Bool) → b ≡ true → b ≡ false → ⊥
 unlike b is isnt = cc
 
-pub damaged_always : (r : Result (Unit {0}) Stop) (old new : View) (tells : Type 0) → ((r ≢ Err Damaged) → (r ≢ Err Device) → tells → is_bootable (site_found 1 old.reads) ≡ true) → HasCounts r old new
-    → tells → is_bootable (site_found 1 old.reads) ≡ false → (Rose old.faults new.faults → ⊥) → status_for r ≡ status.Damaged 0
-damaged_always (Ok x) old new tells bootable counts t none calm = absurd (unlike _ (bootable (λ e. cc) (λ e. cc) t) none)
-damaged_always (Err Damaged) old new tells bootable counts t none calm = refl
-damaged_always (Err Memory) old new tells bootable counts t none calm = absurd (unlike _ (bootable (λ e. cc) (λ e. cc) t) none)
-damaged_always (Err Input) old new tells bootable counts t none calm = absurd (unlike _ (bootable (λ e. cc) (λ e. cc) t) none)
-damaged_always (Err Output) old new tells bootable counts t none calm = absurd (unlike _ (bootable (λ e. cc) (λ e. cc) t) none)
+pub damaged_always : (r : Result (Unit {0}) Stop) (old new : View) (tells : Type 0) → ((r ≢ Err Damaged) → (r ≢ Err Device) → (r ≢ Err Memory) → tells → is_bootable (site_found 1 old.reads) ≡ true) → HasCounts r old new
+    → tells → is_bootable (site_found 1 old.reads) ≡ false → (Rose old.faults new.faults → ⊥) → (status_for r ≡ status.Damaged 0) ⊎ (status_for r ≡ status.NoMemory)
+damaged_always (Ok x) old new tells bootable counts t none calm = absurd (unlike _ (bootable (λ e. cc) (λ e. cc) (λ e. cc) t) none)
+damaged_always (Err Damaged) old new tells bootable counts t none calm = inl refl
+damaged_always (Err Memory) old new tells bootable counts t none calm = inr refl
+damaged_always (Err Input) old new tells bootable counts t none calm = absurd (unlike _ (bootable (λ e. cc) (λ e. cc) (λ e. cc) t) none)
+damaged_always (Err Output) old new tells bootable counts t none calm = absurd (unlike _ (bootable (λ e. cc) (λ e. cc) (λ e. cc) t) none)
 damaged_always (Err Device) old new tells bootable counts t none calm = absurd (calm counts.device.rose)
-damaged_always (Err TooMuchInput) old new tells bootable counts t none calm = absurd (unlike _ (bootable (λ e. cc) (λ e. cc) t) none)
+damaged_always (Err TooMuchInput) old new tells bootable counts t none calm = absurd (unlike _ (bootable (λ e. cc) (λ e. cc) (λ e. cc) t) none)
 
 pub complete : (r : Result (Unit {0}) Stop) (old new : View) (tells : Type 0) → (r ≡ Err Damaged → tells → is_bootable (site_found 1 old.reads) ≡ false) → HasCounts r old new
     → tells → is_bootable (site_found 1 old.reads) ≡ true → NoneRose old new → IsComplete (status_for r)

@@ -3,7 +3,7 @@ use Rattle.std.proofs.Common.{◌≡◌, ◌⊎◌, inl, inr, ⊎_elim, ◌≤�
 use Rattle.std.proofs.lemmas.List.{append-nil, length-take, take_all}
 use Rattle.tq_host.specs.View.{View, Picture, Streams, IsSettled}
 use Rattle.tq_host.specs.Calls.{IsGiving}
-use Rattle.tq_host.specs.Within.{Within, IsOfCall, Ran}
+use Rattle.tq_host.specs.Within.{Came, Within, IsOfCall, Ran}
 use Rattle.tq_host.proofs.Steps.{IsSteps}
 use Rattle.tq_host.proofs.Within.{starts, weaker}
 use Rattle.tq_host.proofs.Running.{ran_start, ran_on, ran_call, ran_weaker}
@@ -15,21 +15,33 @@ use Rattle.tq_model.specs.declared.answer.Answer.TheVariants as answers
 use Rattle.tq_model.specs.declared.answer.DeviceAnswer.TheVariants as device_answers
 use Rattle.tq_model.specs.Step.{Outcome, step, creation_refusal, create_device, unless_refused, with_new_device, new_volume, site_asked}
 use Rattle.tq_model.specs.Text.{line_text}
-use Rattle.tq_model.specs.Reading.{Reading, Content, Blank, Holds, reading, site_found, combined, site_read}
 use Rattle.tq_device.specs.declared.content.DeviceContent.{DeviceContent}
-use Rattle.tq_device.specs.Content.{IsAnyStep, IsBlankOrNew, Stands, content_view, new_content}
-use Rattle.tq_device.proofs.Making.{any_steps}
+use Rattle.tq_device.specs.Content.{IsAnyStep, IsBlankOrNew, Stands, new_content}
 use Rattle.tq_run.specs.declared.manager.Manager.{Manager}
-use Rattle.tq_run.specs.Manager.{site_of, site_of_content, IsOn, IsContentOn}
+use Rattle.tq_device.specs.declared.content.NamedSpace.{NamedSpace}
+use Rattle.tq_spacefile.specs.declared.file.SpaceFile.{SpaceFile}
+use Rattle.tq_run.specs.Manager.{site_of, site_with, site_at, IsOn, IsContentOn, IsFileOn}
 use Rattle.tq_run.specs.Output.{GivesText, GivesSome}
 use Rattle.tq_run.specs.Serial.{site_after, lines_text}
 use Rattle.tq_run.specs.Stops.{ImageStands, IsEither, AreOn, HasNoNewImage, IsAtLine, IsStopped}
-use Rattle.tq_run.proofs.FoundLemmas.{found_blank, found_holds}
-use Rattle.tq_run.proofs.Attending.{stands_for}
+use Rattle.tq_run.proofs.FoundLemmas.{blank_found, image_bare, part_of_stands, image_stands}
 
--- what the manager holds on an image, the image stands for
-pub image_stands : (m : Manager) (image : List ℕ) → IsOn m image → ImageStands (site_of m) image
-image_stands m image is = stands_for m (λ d. image) is
+-- any step of an image
+pub any_steps : IsSteps IsAnyStep
+any_steps = record { none = λ c. tt; both = λ a b c first second. tt }
+
+-- another step and another property of the images
+pub other_step : (dev : ℕ) (S T : List ℕ → List ℕ → Type 0) (Q P : List ℕ → Type 0) (a b : View) → ((i c : List ℕ) → a.may_leave dev i → S i c → Q c → T i c × P c) → Within dev S Q a b → Within dev T P a b
+other_step dev S T Q P a b to within =
+    let came : (c : List ℕ) → Came dev S Q a c → Came dev T P a c = λ c is. let both = to is.image c is.was is.step is.now in record { image = is.image; was = is.was; step = both.0; now = both.1 } in
+    record {
+      later = within.later;
+      own = λ c may. came c (within.own c may);
+      others = within.others;
+      others_read = within.others_read;
+      streams = within.streams;
+      pictures = λ t p le left. ⊎_elim (λ old. inl old) (λ is. inr (record { own = came (p.images dev) is.own; others = is.others; output = is.output })) (within.pictures t p le left);
+    }
 
 -- where nothing is done
 pub nothing_done : (m : Manager) (s : Site) (v : View) → AreOn m v → Within 0 IsAnyStep (IsEither (site_of m) s) v v
@@ -37,31 +49,36 @@ nothing_done m s v on = starts 0 IsAnyStep any_steps (IsEither (site_of m) s) v 
 
 -- The site after a creation that nothing refuses
 pub made_site : (creation : Creation) (m : Manager) → m.content ≡ None → creation.dev ≡ 0 → creation_refusal creation (site_of m) ≡ None
-    → (create_device creation (site_of m)).site ≡ site_read (Holds (new_content (site_asked creation) creation.clusters) ∷ [])
+    → (create_device creation (site_of m)).site ≡ site_at (new_content (site_asked creation) creation.clusters) None 0
 made_site creation m blank zero_dev granted =
     ap (λ (r : Option DeviceAnswer). (unless_refused r (site_of m) (granted_outcome (site_of m))).site) granted
-    ∙ ap (λ (d : Option DeviceContent). with_new_device creation (site_of_content d)) blank ∙ at_zero
+    ∙ ap (λ (d : Option DeviceContent). with_new_device creation (site_with d m.file m.next)) blank ∙ at_zero
   where
     granted_outcome : Site → Outcome
     granted_outcome s = record { site = with_new_device creation s; answer = answers.Device (device_answers.Created (capacity_of (new_volume creation.clusters))) }
 
-    at_zero : with_new_device creation (blank_site 1) ≡ site_read (Holds (new_content (site_asked creation) creation.clusters) ∷ [])
-    at_zero = subst (λ d. with_new_device (record creation { dev = d }) (blank_site 1) ≡ site_read (Holds (new_content (site_asked creation) creation.clusters) ∷ [])) (sym zero_dev) refl
+    at_zero : with_new_device creation (site_with None m.file m.next) ≡ site_at (new_content (site_asked creation) creation.clusters) None 0
+    at_zero = subst (λ d. with_new_device (record creation { dev = d }) (site_with None m.file m.next) ≡ site_at (new_content (site_asked creation) creation.clusters) None 0) (sym zero_dev) refl
 
 -- the images within a creation
 pub creating : (creation : Creation) (m : Manager) (site : ℕ) (old new : View) → m.content ≡ None → creation.dev ≡ 0 → creation_refusal creation (site_of m) ≡ None → site ≡ site_asked creation
     → Within 0 IsAnyStep (IsBlankOrNew site creation.clusters) old new → Within 0 IsAnyStep (IsEither (site_of m) (create_device creation (site_of m)).site) old new
 creating creation m site old new blank zero_dev granted asked within =
     weaker 0 IsAnyStep any_steps (IsBlankOrNew site creation.clusters) (IsEither (site_of m) (create_device creation (site_of m)).site) old new (λ b image may is. ⊎_elim
-    (λ old_image. inl (found_blank (λ d. image) old_image ∙ ap (λ (d : Option DeviceContent). Some (durable (site_of_content d))) (sym blank)))
-    (λ new_image. inr (found_holds (λ d. image) (new_content site creation.clusters) new_image
-    ∙ ap (λ n. Some (durable (site_read (Holds (new_content n creation.clusters) ∷ [])))) asked
+    (λ short. inl (blank_found (λ d. image) short ∙ ap (λ (d : Option DeviceContent). Some (durable (site_with d m.file m.next))) (sym blank)))
+    (λ stands. inr (image_bare (new_content site creation.clusters) 0 image (part_of_stands (new_content site creation.clusters) image stands) refl
+    ∙ ap (λ n. Some (durable (site_at (new_content n creation.clusters) None 0))) asked
     ∙ ap (λ (s : Site). Some (durable s)) (sym (made_site creation m blank zero_dev granted)))) is) within
 
--- a device that was made is on each image
-pub made_on : (m : Manager) (d : DeviceContent) (v : View) → m.content ≡ Some d → IsSettled 0 v → Stands d (v.reads 0) → AreOn m v
-made_on m d v is settled stands = λ image may.
-    subst (λ (content : Option DeviceContent). IsContentOn content image) (sym is) (subst (λ (l : List ℕ). Stands d l) (sym (settled image may)) stands)
+-- a device that was made, on an image that holds it
+pub made_there : (m : Manager) (d : DeviceContent) (image : List ℕ) → m.content ≡ Some d → m.file ≡ None → d.named ≡ None → Stands d image → IsOn m image
+made_there m d image is bare none stands =
+    let fits : IsFileOn d d.named None m.next image = subst (λ (n : Option NamedSpace). IsFileOn d n None m.next image) (sym none) tt in
+    subst (λ (content : Option DeviceContent). IsContentOn content m.file m.next image) (sym is) (subst (λ (file : Option SpaceFile). IsContentOn (Some d) file m.next image) (sym bare) (record { stands = stands; space = fits }))
+
+-- and on each image
+pub made_on : (m : Manager) (d : DeviceContent) (v : View) → m.content ≡ Some d → m.file ≡ None → d.named ≡ None → IsSettled 0 v → Stands d (v.reads 0) → AreOn m v
+made_on m d v is bare none settled stands = λ image may. made_there m d image is bare none (subst (λ (l : List ℕ). Stands d l) (sym (settled image may)) stands)
 
 -- the pictures of a line's device part
 pub first_device : (s : Site) (n : ℕ) (r : Request) (more : List Request) (a b : View) → b.streams ≡ a.streams → Within 0 IsAnyStep (IsEither s (step s r).site) a b → Ran (IsStopped s n (r ∷ more) a b) a b

@@ -6,3 +6,5 @@ pub mod Output
 pub mod Serial
 pub mod Ending
 pub mod Stops
+pub mod Spaces
+pub mod Calls

@@ -1,18 +1,40 @@
-ghost use Rattle.std.specs.Prelude.{◌≡◌, ◌≢◌, ◌<◌, ◌≤◌, ◌+◌, ◌-◌, List, ℕ, IfOk, IfErr, OnOk, IfNone, None};
+ghost use Rattle.std.specs.Prelude.{◌≡◌, ◌≢◌, ◌<◌, ◌≤◌, ◌+◌, ◌-◌, List, ℕ, IfOk, IfErr, OnOk, IfNone, None, is_some, map};
 ghost use Rattle.tq_host.specs.Within.{KeepsRest, Within};
 ghost use Rattle.tq_model.specs.Step.{device_step, creation_refusal, create_device, list_device, ready, site_asked};
 ghost use Rattle.tq_device.specs.Content.{IsAnyStep};
 ghost use Rattle.tq_run.specs.Counts.{HasCounts};
 ghost use Rattle.tq_run.specs.Stops.{AreOn, IsEither};
-ghost use Rattle.tq_run.specs.Manager.{site_of, IsOn};
+ghost use Rattle.tq_run.specs.Manager.{site_of, placed_in, placed_of, volume_in, IsOn, IsFit};
+ghost use Rattle.tq_model.specs.Site.{capacity_of, first_extents, clusters_for, space_count, spaces_on};
+ghost use Rattle.tq_model.specs.Step.{space_line};
 
 use crate::manager::Manager;
 use crate::status::Stop;
-use tq_device::create;
+use std::alloc::{AllocError, Global};
+use tq_device::{DeviceContent, NamedSpace, create};
 use tq_host::Host;
 use tq_model::{
-    Answer, Capacity, Creation, DeviceAnswer, DeviceRequest, Field, Identity, Listing, Readiness,
+    Answer, Capacity, Creation, DeviceAnswer, DeviceRequest, Extent, Extents, Field, Identity,
+    Listing, Readiness, SpaceLine, SpaceLines,
 };
+use tq_spacefile::SpaceFile;
+
+// Whether a space stands on a device.
+pub fn has_space(content: &DeviceContent, file: &Option<SpaceFile>) -> bool
+    ensures { result ≡ is_some (placed_in content.now.named file.now) }
+{
+    content.named.is_some() && file.is_some()
+}
+
+// How many spaces stand.
+fn space_count(manager: &Manager) -> u32
+    ensures { result ≡ space_count (site_of manager.now) }
+{
+    match &manager.content {
+        None => 0,
+        Some(content) => u32::from(has_space(content, &manager.file)),
+    }
+}
 
 // What a boot answers.
 pub fn readiness(manager: &Manager) -> Answer
@@ -27,7 +49,7 @@ pub fn readiness(manager: &Manager) -> Answer
     };
     Answer::Ready(Readiness {
         identity,
-        spaces: 0,
+        spaces: space_count(manager),
         in_doubt: 0,
     })
 }
@@ -66,29 +88,72 @@ fn refusal(manager: &Manager, creation: &Creation) -> Option<DeviceAnswer>
     None
 }
 
-// What is said of the device with this number.
-fn listing(manager: &Manager, dev: u8) -> DeviceAnswer
-    ensures { result ≡ list_device dev (site_of manager.now) }
+// The clusters for so many pages.
+pub fn clusters_for(pages: u32) -> u32
+    ensures { result ≡ clusters_for pages }
 {
-    if dev != 0 {
-        return DeviceAnswer::NoDevice;
-    }
-    match manager.content {
-        None => DeviceAnswer::NotCreated,
-        Some(content) => DeviceAnswer::Listed(Listing {
-            capacity: capacity(content.clusters),
-            spaces: 0,
-        }),
+    pages / 32 + (pages % 32 + 31) / 32
+}
+
+// The clusters of a device, and those that its header and its space leave.
+pub fn capacity_of(content: &DeviceContent, file: &Option<SpaceFile>) -> Capacity
+    ensures { result ≡ capacity_of (volume_in file.now content.now) }
+{
+    let taken = match (&content.named, file) {
+        (Some(named), Some(_)) => clusters_for(named.pages),
+        _ => 0,
+    };
+    Capacity {
+        clusters: content.clusters,
+        free: content.clusters.saturating_sub(4 + taken),
     }
 }
 
-// The clusters of a device, and those that its header leaves.
-fn capacity(clusters: u32) -> Capacity
-    ensures { (result.clusters ≡ clusters) × (result.free ≡ clusters - 4) }
+// What is said of a space that is there.
+fn line_of(alloc: Global, named: &NamedSpace, file: &SpaceFile) -> Result<SpaceLine, AllocError>
+    ensures { IfOk result (λ line. line ≡ space_line (placed_of named.now file.now)) }
 {
-    Capacity {
-        clusters,
-        free: clusters.saturating_sub(4),
+    let mut extents = Extents::new(alloc);
+    extents.push(Extent {
+        first: 4,
+        count: clusters_for(named.pages),
+    })?;
+    Ok(SpaceLine {
+        name: named.name,
+        number: file.space().number(),
+        pages: named.pages,
+        extents,
+    })
+}
+
+// The lines on the spaces of a device.
+fn lines_of(
+    alloc: Global,
+    content: &DeviceContent,
+    file: &Option<SpaceFile>,
+) -> Result<SpaceLines, AllocError>
+    ensures { IfOk result (λ lines. lines ≡ map space_line (spaces_on (volume_in file.now content.now))) }
+{
+    let mut lines = SpaceLines::new(alloc);
+    if let (Some(named), Some(file)) = (&content.named, file) {
+        lines.push(line_of(alloc, named, file)?)?;
+    }
+    Ok(lines)
+}
+
+// What is said of the device with this number.
+fn listing(alloc: Global, manager: &Manager, dev: u8) -> Result<DeviceAnswer, AllocError>
+    ensures { IfOk result (λ answer. answer ≡ list_device dev (site_of manager.now)) }
+{
+    if dev != 0 {
+        return Ok(DeviceAnswer::NoDevice);
+    }
+    match &manager.content {
+        None => Ok(DeviceAnswer::NotCreated),
+        Some(content) => Ok(DeviceAnswer::Listed(Listing {
+            capacity: capacity_of(content, &manager.file),
+            spaces: lines_of(alloc, content, &manager.file)?,
+        })),
     }
 }
 
@@ -98,9 +163,12 @@ fn create_device<H: Host>(
     manager: &mut Manager,
     creation: &Creation,
 ) -> Result<Answer, Stop>
-    requires { H.tells.reads → IsOn manager.old ((H.view host.old).reads 0) }
+    requires fit { IsFit manager.old }
+    requires holds { H.tells.reads → IsOn manager.old ((H.view host.old).reads 0) }
     ensures answer { IfOk result (λ a. a ≡ (create_device creation.now (site_of manager.old)).answer) }
     ensures site { OnOk result (site_of manager.new ≡ (create_device creation.now (site_of manager.old)).site) }
+    ensures next { OnOk result (manager.new.next ≤ manager.old.next) }
+    ensures fit { OnOk result (IsFit manager.new) }
     ensures holds { OnOk result (H.tells.reads → IsOn manager.new ((H.view host.new).reads 0)) }
     ensures stop { AreOn manager.old (H.view host.old) → Within 0 IsAnyStep (IsEither (site_of manager.old) (create_device creation.now (site_of manager.old)).site) (H.view host.old) (H.view host.new) }
     ensures images { OnOk result (H.tells.reads → AreOn manager.old (H.view host.old) → AreOn manager.new (H.view host.new)) }
@@ -114,28 +182,41 @@ fn create_device<H: Host>(
     let site = site_number(creation) as u32;
     let clusters = creation.clusters as u32;
     let content = create(host, 0, site, clusters).map_err(|_| Stop::Device)?;
-    manager.content = Some(content);
-    Ok(Answer::Device(DeviceAnswer::Created(capacity(clusters))))
+    *manager = Manager {
+        content: Some(content),
+        file: None,
+        next: 0,
+    };
+    Ok(Answer::Device(DeviceAnswer::Created(capacity_of(
+        &content, &None,
+    ))))
 }
 
 /// Does what is asked of a device.
 pub fn serve_device<H: Host>(
+    alloc: Global,
     host: &mut H,
     manager: &mut Manager,
     request: &DeviceRequest,
 ) -> Result<Answer, Stop>
-    requires { H.tells.reads → IsOn manager.old ((H.view host.old).reads 0) }
+    requires fit { IsFit manager.old }
+    requires holds { H.tells.reads → IsOn manager.old ((H.view host.old).reads 0) }
     ensures answer { IfOk result (λ a. a ≡ (device_step (site_of manager.old) request.now).answer) }
     ensures site { OnOk result (site_of manager.new ≡ (device_step (site_of manager.old) request.now).site) }
+    ensures next { OnOk result (manager.new.next ≤ manager.old.next) }
+    ensures fit { OnOk result (IsFit manager.new) }
     ensures holds { OnOk result (H.tells.reads → IsOn manager.new ((H.view host.new).reads 0)) }
     ensures stop { AreOn manager.old (H.view host.old) → Within 0 IsAnyStep (IsEither (site_of manager.old) (device_step (site_of manager.old) request.now).site) (H.view host.old) (H.view host.new) }
     ensures images { OnOk result (H.tells.reads → AreOn manager.old (H.view host.old) → AreOn manager.new (H.view host.new)) }
     ensures counts { HasCounts result (H.view host.old) (H.view host.new) }
     ensures rest { KeepsRest 0 (H.view host.old) (H.view host.new) }
-    ensures only { IfErr result (λ e. e ≡ Stop.Device) }
+    ensures two { IfErr result (λ e. (e ≢ Stop.Memory) → e ≡ Stop.Device) }
 {
     match request {
         DeviceRequest::Create(creation) => create_device(host, manager, creation),
-        DeviceRequest::List(dev) => Ok(Answer::Device(listing(manager, *dev))),
+        DeviceRequest::List(dev) => {
+            let answer = listing(alloc, manager, *dev).map_err(|_| Stop::Memory)?;
+            Ok(Answer::Device(answer))
+        }
     }
 }

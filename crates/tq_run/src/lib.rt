@@ -1,11 +1,14 @@
 //! The top call: a script of lines over device files.
 #![tactic(auto)]
 
+mod calls;
 mod devices;
 mod manager;
+mod queues;
 mod running;
 mod script;
 mod serving;
+mod spaces;
 mod status;
 #[cfg(test)]
 mod tests;

@@ -1,27 +1,48 @@
-ghost use Rattle.std.specs.Prelude.{◌≡◌, ◌≢◌, ◌<◌, ◌≤◌, ◌+◌, List, ℕ, false, IfOk, IfErr, OnOk, Some};
+ghost use Rattle.std.specs.Prelude.{◌≡◌, ◌≢◌, ◌<◌, ◌≤◌, ◌+◌, List, ℕ, false, IfOk, IfErr, OnOk, Some, None};
 ghost use Rattle.tq_host.specs.View.{IsSettled};
 ghost use Rattle.tq_host.specs.Within.{KeepsRest, Within};
 ghost use Rattle.tq_model.specs.Site.{Site};
 ghost use Rattle.tq_model.specs.Step.{booted};
 ghost use Rattle.tq_model.specs.Reading.{site_found};
-ghost use Rattle.tq_device.specs.Content.{IsFoundOn, Stands, IsSameImage, IsAny, IsAnyStep, IsOldOrRaised, content_view};
+ghost use Rattle.tq_device.specs.Content.{IsFoundOn, IsFoundWithin, IsWithin, Stands, IsSameImage, IsAny, IsAnyStep};
 ghost use Rattle.tq_run.specs.Counts.{HasCounts};
 ghost use Rattle.tq_run.specs.Stops.{HasNoNewImage, AreOn, IsEither};
-ghost use Rattle.tq_run.specs.Manager.{IsOn, is_bootable, IsBooted, IsRaised};
+ghost use Rattle.tq_run.specs.Manager.{place_of, IsTogether, IsFit, IsOn, is_bootable, IsBooted, IsLoaded, IsRaised, loaded_site, stop_for};
 
 use crate::status::Stop;
-use tq_device::{DeviceContent, Found, load, raise_epoch};
+use std::alloc::Global;
+use tq_device::{DeviceContent, Found, NamedSpace, load, raise_epoch};
 use tq_host::Host;
+use tq_spacefile::{FileError, SpaceFile, SpacePlace};
 
-/// The site in memory: what device 0 holds, and None while it is blank.
-#[derive(Clone, Copy)]
+/// The site in memory.
+#[derive(Drop)]
 pub struct Manager {
+    /// What device 0 holds, and None while it is blank.
     pub content: Option<DeviceContent>,
+    /// The space that its table names.
+    pub file: Option<SpaceFile>,
+    /// The number of the next message.
+    pub next: u32,
+}
+
+// Where the space of that name lies.
+pub fn place_of(content: &DeviceContent, named: &NamedSpace) -> SpacePlace
+    requires { named.now.ordinal ≤ 268435455 }
+    ensures { result ≡ place_of content.now named.now }
+{
+    SpacePlace {
+        dev: 0,
+        pages: named.pages,
+        site: content.site,
+        number: 8 * named.ordinal,
+    }
 }
 
 // Makes what device 0 reads what a stop leaves, and judges it.
 fn look<H: Host>(host: &mut H) -> Result<Found, Stop>
     ensures found { IfOk result (λ f. H.tells.reads → IsFoundOn f ((H.view host.old).reads 0)) }
+    ensures within { IfOk result IsFoundWithin }
     ensures still { (d : ℕ) → (H.view host.new).reads d ≡ (H.view host.old).reads d }
     ensures stop { Within 0 IsSameImage IsAny (H.view host.old) (H.view host.new) }
     ensures images { HasNoNewImage (H.view host.old) (H.view host.new) }
@@ -33,13 +54,61 @@ fn look<H: Host>(host: &mut H) -> Result<Found, Stop>
     load(host, 0).map_err(|_| Stop::Device)
 }
 
+// Loads the space that the table names, if it names one.
+fn load_space<H: Host>(
+    alloc: Global,
+    host: &mut H,
+    content: &DeviceContent,
+) -> Result<Option<SpaceFile>, Stop>
+    requires named { IsWithin content.now.named }
+    requires holds { H.tells.reads → Stands content.now ((H.view host.old).reads 0) }
+    ensures fit { IfOk result (λ file. IsTogether (Some content.now) file) }
+    ensures loaded { IfOk result (λ file. H.tells.reads → IsLoaded content.now file ((H.view host.old).reads 0)) }
+    ensures damaged { result ≡ Err Stop.Damaged → H.tells.reads → site_found 1 (H.view host.old).reads ≡ None }
+    ensures still { (d : ℕ) → (H.view host.new).reads d ≡ (H.view host.old).reads d }
+    ensures stop { Within 0 IsSameImage IsAny (H.view host.old) (H.view host.new) }
+    ensures images { HasNoNewImage (H.view host.old) (H.view host.new) }
+    ensures counts { HasCounts result (H.view host.old) (H.view host.new) }
+    ensures rest { KeepsRest 0 (H.view host.old) (H.view host.new) }
+    ensures three { IfErr result (λ e. (e ≢ Stop.Damaged) → (e ≢ Stop.Memory) → e ≡ Stop.Device) }
+{
+    match content.named {
+        None => Ok(None),
+        Some(named) => {
+            let place = place_of(content, &named);
+            match SpaceFile::load(alloc, host, &place, content.epoch) {
+                Ok(file) => Ok(Some(file)),
+                Err(error) => Err(stop_of(error)),
+            }
+        }
+    }
+}
+
+// What ends a run where its space is not loaded.
+fn stop_of(error: FileError) -> Stop
+    ensures { result ≡ stop_for error }
+{
+    match error {
+        FileError::Damaged => Stop::Damaged,
+        FileError::Device => Stop::Device,
+        FileError::NoMemory => Stop::Memory,
+    }
+}
+
 // Raises the epoch that was found, where there is a next one.
-fn raise<H: Host>(host: &mut H, content: &DeviceContent) -> Result<Manager, Stop>
-    requires { H.tells.reads → Stands content.now ((H.view host.old).reads 0) }
-    ensures raised { IfOk result (λ m. H.tells.reads → IsRaised content.now m ((H.view host.new).reads 0)) }
+fn raise<H: Host>(
+    host: &mut H,
+    content: &DeviceContent,
+    file: Option<SpaceFile>,
+) -> Result<Manager, Stop>
+    requires fit { IsTogether (Some content.now) file }
+    requires holds { H.tells.reads → IsLoaded content.now file ((H.view host.old).reads 0) }
+    ensures fit { IfOk result IsFit }
+    ensures first { IfOk result (λ m. m.next ≡ 0) }
+    ensures raised { IfOk result (λ m. H.tells.reads → IsRaised content.now file m ((H.view host.new).reads 0)) }
     ensures damaged { result ≡ Err Stop.Damaged → content.now.epoch ≡ 4294967295 }
     ensures untouched { result ≡ Err Stop.Damaged → host.new ≡ host.old }
-    ensures stop { ((c : List ℕ) → (H.view host.old).may_leave 0 c → Stands content.now c) → Within 0 IsAnyStep (IsOldOrRaised (content_view content.now)) (H.view host.old) (H.view host.new) }
+    ensures stop { ((c : List ℕ) → (H.view host.old).may_leave 0 c → IsLoaded content.now file c) → Within 0 IsAnyStep (IsEither (loaded_site content.now file) (booted (loaded_site content.now file))) (H.view host.old) (H.view host.new) }
     ensures on { IfOk result (λ m. H.tells.reads → AreOn m (H.view host.new)) }
     ensures counts { HasCounts result (H.view host.old) (H.view host.new) }
     ensures rest { KeepsRest 0 (H.view host.old) (H.view host.new) }
@@ -51,11 +120,21 @@ fn raise<H: Host>(host: &mut H, content: &DeviceContent) -> Result<Manager, Stop
     let raised = raise_epoch(host, 0, content).map_err(|_| Stop::Device)?;
     Ok(Manager {
         content: Some(raised),
+        file,
+        next: 0,
     })
 }
 
-/// A boot: finds what device 0 stands for, makes it what a stop leaves, and raises its epoch.
-pub fn boot<H: Host>(host: &mut H) -> Result<Manager, Stop>
+// A boot of what was found.
+fn boot_content<H: Host>(
+    alloc: Global,
+    host: &mut H,
+    content: &DeviceContent,
+) -> Result<Manager, Stop>
+    requires named { IsWithin content.now.named }
+    requires holds { H.tells.reads → Stands content.now ((H.view host.old).reads 0) }
+    ensures fit { IfOk result IsFit }
+    ensures first { IfOk result (λ m. m.next ≡ 0) }
     ensures booted { IfOk result (λ m. H.tells.reads → IsBooted m (H.view host.old) (H.view host.new)) }
     ensures damaged { result ≡ Err Stop.Damaged → H.tells.reads → is_bootable (site_found 1 (H.view host.old).reads) ≡ false }
     ensures untouched { result ≡ Err Stop.Damaged → (d : ℕ) → (H.view host.new).reads d ≡ (H.view host.old).reads d }
@@ -63,11 +142,33 @@ pub fn boot<H: Host>(host: &mut H) -> Result<Manager, Stop>
     ensures on { IfOk result (λ m. H.tells.reads → IsSettled 0 (H.view host.old) → AreOn m (H.view host.new)) }
     ensures counts { HasCounts result (H.view host.old) (H.view host.new) }
     ensures rest { KeepsRest 0 (H.view host.old) (H.view host.new) }
-    ensures two { IfErr result (λ e. (e ≢ Stop.Damaged) → e ≡ Stop.Device) }
+    ensures three { IfErr result (λ e. (e ≢ Stop.Damaged) → (e ≢ Stop.Memory) → e ≡ Stop.Device) }
+{
+    let file = load_space(alloc, host, content)?;
+    raise(host, content, file)
+}
+
+/// A boot: finds what device 0 stands for, makes it what a stop leaves, and raises its epoch. All
+/// memory is taken before the device is written to.
+pub fn boot<H: Host>(alloc: Global, host: &mut H) -> Result<Manager, Stop>
+    ensures fit { IfOk result IsFit }
+    ensures first { IfOk result (λ m. m.next ≡ 0) }
+    ensures booted { IfOk result (λ m. H.tells.reads → IsBooted m (H.view host.old) (H.view host.new)) }
+    ensures damaged { result ≡ Err Stop.Damaged → H.tells.reads → is_bootable (site_found 1 (H.view host.old).reads) ≡ false }
+    ensures untouched { result ≡ Err Stop.Damaged → (d : ℕ) → (H.view host.new).reads d ≡ (H.view host.old).reads d }
+    ensures stop { H.tells.reads → IsSettled 0 (H.view host.old) → (found : Site) → site_found 1 (H.view host.old).reads ≡ Some found → Within 0 IsAnyStep (IsEither found (booted found)) (H.view host.old) (H.view host.new) }
+    ensures on { IfOk result (λ m. H.tells.reads → IsSettled 0 (H.view host.old) → AreOn m (H.view host.new)) }
+    ensures counts { HasCounts result (H.view host.old) (H.view host.new) }
+    ensures rest { KeepsRest 0 (H.view host.old) (H.view host.new) }
+    ensures three { IfErr result (λ e. (e ≢ Stop.Damaged) → (e ≢ Stop.Memory) → e ≡ Stop.Device) }
 {
     match look(host)? {
         Found::Damaged => Err(Stop::Damaged),
-        Found::Blank => Ok(Manager { content: None }),
-        Found::Holds(content) => raise(host, &content),
+        Found::Blank => Ok(Manager {
+            content: None,
+            file: None,
+            next: 0,
+        }),
+        Found::Holds(content) => boot_content(alloc, host, &content),
     }
 }

@@ -12,7 +12,7 @@ ghost use Rattle.tq_model.specs.Reading.{site_found};
 ghost use Rattle.tq_run.specs.Counts.{NoneRose, HasCounts};
 ghost use Rattle.tq_run.specs.Ending.{IsDone, IsUntouched, IsDamaged, FailsInLine0, IsComplete, status_for};
 ghost use Rattle.tq_run.specs.Input.{IsRead};
-ghost use Rattle.tq_run.specs.Manager.{site_of, IsOn, is_bootable};
+ghost use Rattle.tq_run.specs.Manager.{site_of, IsOn, IsFit, is_bootable};
 ghost use Rattle.tq_run.specs.Output.{GivesText, GivesSome, KeepsInput};
 ghost use Rattle.tq_run.specs.Serial.{site_after, lines_text, IsSerial};
 ghost use Rattle.tq_run.specs.Words.{device_word};
@@ -37,6 +37,9 @@ fn answer_script<H: Host>(
     limit: u64,
 ) -> Result<(), Stop>
     requires limit { 0 < limit }
+    requires most { limit ≤ 4294967296 }
+    requires fit { IsFit manager.old }
+    requires first { manager.old.next ≡ 0 }
     requires holds { H.tells.reads → IsOn manager.old ((H.view host.old).reads 0) }
     ensures left { OnOk result (H.tells.script → (H.view host.new).streams.script ≡ []) }
     ensures site { OnOk result (H.tells.script → site_of manager.new ≡ site_after (site_of manager.old) (script_requests (H.view host.old).streams.script)) }
@@ -56,11 +59,12 @@ fn answer_script<H: Host>(
 
 // A run over one device: a boot, which is line 0, and the lines of the script, of which at most `limit` bytes are read.
 fn attend<H: Host>(alloc: Global, path: &str, host: &mut H, limit: u64) -> Result<(), Stop>
-    requires { 0 < limit }
+    requires some { 0 < limit }
+    requires most { limit ≤ 4294967296 }
     ensures done { OnOk result (TellsAll H.tells → (found : Site) → site_found 1 (H.view host.old).reads ≡ Some found → IsSerial (H.view host.old) (H.view host.new) found) }
     ensures damaged { result ≡ Err Stop.Damaged → H.tells.reads → is_bootable (site_found 1 (H.view host.old).reads) ≡ false }
     ensures untouched { result ≡ Err Stop.Damaged → IsUntouched (H.view host.old) (H.view host.new) }
-    ensures bootable { (result ≢ Err Stop.Damaged) → (result ≢ Err Stop.Device) → H.tells.reads → is_bootable (site_found 1 (H.view host.old).reads) ≡ true }
+    ensures bootable { (result ≢ Err Stop.Damaged) → (result ≢ Err Stop.Device) → (result ≢ Err Stop.Memory) → H.tells.reads → is_bootable (site_found 1 (H.view host.old).reads) ≡ true }
     ensures some { H.tells.output → GivesSome (H.view host.old) (H.view host.new) }
     ensures much { result ≡ Err Stop.TooMuchInput → H.tells.output → (H.view host.new).streams.taken ≡ (H.view host.old).streams.taken + limit }
     ensures less { (result ≢ Err Stop.TooMuchInput) → (result ≢ Err Stop.Memory) → H.tells.output → (H.view host.new).streams.taken < (H.view host.old).streams.taken + limit }
@@ -70,7 +74,7 @@ fn attend<H: Host>(alloc: Global, path: &str, host: &mut H, limit: u64) -> Resul
     ensures counts { HasCounts result (H.view host.old) (H.view host.new) }
 {
     host.attach(0, path).map_err(|_| Stop::Device)?;
-    let mut manager = boot(host)?;
+    let mut manager = boot(alloc, host)?;
     give_answer(alloc, host, 0, &readiness(&manager))?;
     answer_script(alloc, host, &mut manager, limit)
 }
@@ -92,11 +96,12 @@ fn status_of(ending: Result<(), Stop>) -> Status
 
 // A run that reads at most `limit` bytes.
 pub fn run_within<H: Host>(alloc: Global, words: &[String], host: &mut H, limit: u64) -> Status
-    requires { 0 < limit }
+    requires some { 0 < limit }
+    requires most { limit ≤ 4294967296 }
     ensures usage { (result ≡ Status.Usage) ↔ (device_word (map string_bytes words.now) ≡ None) }
     ensures nothing_else { result ≡ Status.Usage → host.new ≡ host.old }
     ensures damaged { (d : ℕ) → result ≡ Status.Damaged d → IsDamaged H.tells d (H.view host.old) (H.view host.new) }
-    ensures damaged_always { result ≢ Status.Usage → H.tells.reads → is_bootable (site_found 1 (H.view host.old).reads) ≡ false → (Rose (H.view host.old).faults (H.view host.new).faults → ⊥) → result ≡ Status.Damaged 0 }
+    ensures damaged_always { result ≢ Status.Usage → H.tells.reads → is_bootable (site_found 1 (H.view host.old).reads) ≡ false → (Rose (H.view host.old).faults (H.view host.new).faults → ⊥) → (result ≡ Status.Damaged 0) ⊎ (result ≡ Status.NoMemory) }
     ensures read_fault { HasCauseOf (result ≡ Status.ReadFault) (H.view host.old).streams.input_faults (H.view host.new).streams.input_faults }
     ensures write_fault { HasCauseOf (result ≡ Status.WriteFault) (H.view host.old).streams.output_faults (H.view host.new).streams.output_faults }
     ensures device_fault { HasCauseOf (result ≡ Status.DeviceFault) (H.view host.old).faults (H.view host.new).faults }
@@ -127,7 +132,7 @@ pub fn run<H: Host>(alloc: Global, words: &[String], host: &mut H) -> Status
 
     // The device's bytes have no reading, or its epoch cannot be raised; nothing is written then.
     ensures damaged { (d : ℕ) → result ≡ Status.Damaged d → IsDamaged H.tells d (H.view host.old) (H.view host.new) }
-    ensures damaged_always { result ≢ Status.Usage → H.tells.reads → is_bootable (site_found 1 (H.view host.old).reads) ≡ false → (Rose (H.view host.old).faults (H.view host.new).faults → ⊥) → result ≡ Status.Damaged 0 }
+    ensures damaged_always { result ≢ Status.Usage → H.tells.reads → is_bootable (site_found 1 (H.view host.old).reads) ≡ false → (Rose (H.view host.old).faults (H.view host.new).faults → ⊥) → (result ≡ Status.Damaged 0) ⊎ (result ≡ Status.NoMemory) }
 
     // The host failed, each way exactly where its count rose.
     ensures read_fault { HasCauseOf (result ≡ Status.ReadFault) (H.view host.old).streams.input_faults (H.view host.new).streams.input_faults }

@@ -16,6 +16,7 @@ fn take_some<H: Host>(host: &mut H, script: &mut Vec<u8>, room: u64) -> Result<u
     requires { 0 < room }
     ensures taken { IfOk result (λ n. IsTakenSoFar H.tells n script.old.items script.new.items (H.view host.old) (H.view host.new)) }
     ensures room { IfOk result (λ n. n ≤ room) }
+    ensures longer { IfOk result (λ n. length script.new.items ≡ length script.old.items + n) }
     ensures refused { result ≡ Err Stop.Input → (H.view host.new).streams.taken ≡ (H.view host.old).streams.taken }
     ensures still { TakesOnly (H.view host.old) (H.view host.new) }
     ensures waits { Ran (IsWaiting (H.view host.old)) (H.view host.old) (H.view host.new) }
@@ -41,6 +42,7 @@ fn take_some<H: Host>(host: &mut H, script: &mut Vec<u8>, room: u64) -> Result<u
 pub fn read_script<H: Host>(alloc: Global, host: &mut H, limit: u64) -> Result<Vec<u8>, Stop>
     requires { 0 < limit }
     ensures read { IfOk result (λ script. H.tells.script → IsRead script.items (H.view host.old).streams (H.view host.new).streams) }
+    ensures short { IfOk result (λ script. length script.items < limit) }
     ensures still { TakesOnly (H.view host.old) (H.view host.new) }
     ensures waits { Ran (IsWaiting (H.view host.old)) (H.view host.old) (H.view host.new) }
     ensures images { HasNoNewImage (H.view host.old) (H.view host.new) }

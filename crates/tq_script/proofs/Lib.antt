@@ -1,5 +1,8 @@
 pub mod Digits
+pub mod FlagNames
+pub mod KeyedValues
 pub mod LineEnds
+pub mod OfRows
 pub mod Positions
 pub mod Scans
 pub mod Spelt

@@ -1,5 +1,5 @@
 -- What a first place says.
-use Rattle.std.proofs.Common.{◌≡◌, ℕ, ◌+◌, ◌<◌, ◌≤◌, Bool, true, false, List, [], ◌∷◌, length, refl, Option, Some, None, inl, inr, arith, ltb}
+use Rattle.std.proofs.Common.{◌≡◌, ℕ, ◌+◌, ◌<◌, ◌≤◌, Bool, true, List, [], ◌∷◌, length, refl, Option, Some, None, inl, inr, arith, ltb}
 use Rattle.std.proofs.lemmas.Bool.{cases_Bool, ltb-true, ltb-false}
 use Rattle.std.specs.List.{list_any, position, position_or_len}
 
@@ -8,13 +8,6 @@ any_before p [] l = absurd (omega arith)
 any_before p (x ∷ xs) l = elim (cases_Bool (p x)) [
   | inl h ↦ rw h refl
   | inr h ↦ let later : 1 + position_or_len p xs < length (x ∷ xs) = rw h at l in rw h (any_before p xs (omega arith))
-]
-
-none_before : {X : Type 0} (p : X → Bool) (xs : List X) → length xs ≤ position_or_len p xs → list_any p xs ≡ false
-none_before p [] l = refl
-none_before p (x ∷ xs) l = elim (cases_Bool (p x)) [
-  | inl h ↦ let first : length (x ∷ xs) ≤ 0 = rw h at l in absurd (omega arith)
-  | inr h ↦ let later : length (x ∷ xs) ≤ 1 + position_or_len p xs = rw h at l in rw h (none_before p xs (omega arith))
 ]
 
 module _ {X : Type 0} (p : X → Bool) (xs : List X) where
@@ -33,6 +26,3 @@ module _ {X : Type 0} (p : X → Bool) (xs : List X) where
   -- whether any passes
   pub list_any-some : position_or_len p xs < length xs → list_any p xs ≡ true
   list_any-some = any_before p xs
-
-  pub list_any-none : length xs ≤ position_or_len p xs → list_any p xs ≡ false
-  list_any-none = none_before p xs

@@ -1,11 +1,13 @@
 -- The steps of a scan, and what was read before it.
-use Rattle.std.proofs.Common.{◌≡◌, ℕ, ◌+◌, ◌==◌, List, [], ◌∷◌, ◌++◌, take, drop, map, Some, None, Err, not, refl, ap, inl, inr, ◌∙◌, append_assoc}
+use Rattle.std.proofs.Common.{◌≡◌, ℕ, ◌+◌, ◌<◌, ◌==◌, false, List, [], ◌∷◌, ◌++◌, length, take, drop, get_or, map, Some, Err, not, refl, ap, inl, inr, ◌∙◌, append_assoc}
 use Rattle.std.proofs.lemmas.Bool.{cases_Bool}
+use Rattle.std.proofs.lemmas.List.{at_drop_more}
+use Rattle.std.specs.Str.{bytes_eq}
 use Rattle.std.specs.List.{filter, list_any, position}
 use Rattle.tq_model.specs.declared.grammar.Key.{Key}
-use Rattle.tq_model.specs.declared.grammar.Kind.{Kind}
 use Rattle.tq_model.specs.declared.grammar.Value.{Value}
-use Rattle.tq_model.specs.Grammar.{Word, KeyRow, Given, Scan, Misfit, Missing, Spelt, with_value, with_given, is_same_key, key_among, keyed_value, rows_without, scan, scan_keyed, value_of}
+use Rattle.tq_model.specs.declared.grammar.Verb.{Verb}
+use Rattle.tq_model.specs.Grammar.{KeyRow, Given, Scan, Misfit, Missing, Spelt, with_value, with_given, given_of, is_same_key, key_among, keyed_value, rows_without, verb_among, verb_word}
 use Rattle.tq_script.proofs.Positions.{position-some, list_any-some}
 use Rattle.tq_script.specs.Reads.{ReadsAs, with_read}
 use Rattle.tq_script.specs.declared.unread.Unread.{Unread}
@@ -29,34 +31,22 @@ with_read-none (Misfit column) = refl
 with_read-none Missing = refl
 with_read-none (Spelt later_values later_given) = refl
 
--- a keyed word
-pub scan_keyed-given : (rows : List KeyRow) (w : Word) (words : List Word) (g : Given) → Some g ≡ keyed_value rows w.bytes →
-    scan_keyed rows (w ∷ words) ≡ with_given g (scan_keyed (rows_without g.key rows) words)
-scan_keyed-given rows w words g e = rw (← e) refl
-
-pub scan_keyed-misfit : (rows : List KeyRow) (w : Word) (words : List Word) → None ≡ keyed_value rows w.bytes → scan_keyed rows (w ∷ words) ≡ Misfit w.column
-scan_keyed-misfit rows w words e = rw (← e) refl
-
--- a positional word
-pub scan-value : (kind : Kind) (kinds : List Kind) (rows : List KeyRow) (w : Word) (words : List Word) (v : Value) → Some v ≡ value_of kind w.bytes →
-    scan (kind ∷ kinds) rows (w ∷ words) ≡ with_value v (scan kinds rows words)
-scan-value kind kinds rows w words v e = rw (← e) refl
-
-pub scan-misfit : (kind : Kind) (kinds : List Kind) (rows : List KeyRow) (w : Word) (words : List Word) → None ≡ value_of kind w.bytes →
-    scan (kind ∷ kinds) rows (w ∷ words) ≡ Misfit w.column
-scan-misfit kind kinds rows w words e = rw (← e) refl
-
+-- a key that is still to be given
 pub list_any-required : (rows : List table.KeyRow) → list_any (λ (row : KeyRow). row.required) (map key_row_of rows) ≡ list_any is_required rows
 list_any-required [] = refl
 list_any-required (row ∷ rows) = rw (list_any-required rows) refl
 
 -- what a word with an equals sign gives
-pub keyed_value-some : (rows : List KeyRow) (word : List ℕ) (at : ℕ) (row : KeyRow) (v : Value) →
-    Some at ≡ position (λ (b : ℕ). b == 61) word → Some row ≡ key_among rows (take at word) → Some v ≡ value_of row.kind (drop (at + 1) word) →
-    Some (record { key = row.key; value = v }) ≡ keyed_value rows word
-keyed_value-some rows word at row v there named spelt =
+pub keyed_value-key : (rows : List KeyRow) (word : List ℕ) (at : ℕ) (row : KeyRow) →
+    Some at ≡ position (λ (b : ℕ). b == 61) word → Some row ≡ key_among rows (take at word) → keyed_value rows word ≡ given_of (Some row) (drop (at + 1) word)
+keyed_value-key rows word at row there named =
     let is = position-some (λ (b : ℕ). b == 61) word at there in
-    rw (list_any-some (λ (b : ℕ). b == 61) word is.1, ← is.0, ← named, ← spelt) refl
+    rw (list_any-some (λ (b : ℕ). b == 61) word is.1, ← is.0, ← named) refl
+
+-- a verb that is not meant
+pub verb_among-more : (verbs : List Verb) (word : List ℕ) (i : ℕ) (verb : Verb) → i < length verbs → bytes_eq word (verb_word (get_or verbs i verb)) ≡ false →
+    verb_among (drop i verbs) word ≡ verb_among (drop (i + 1) verbs) word
+verb_among-more verbs word i verb l h = at_drop_more (λ (vs : List Verb). verb_among vs word) verbs i verb l ∙ rw h refl
 
 -- the rows without a key
 pub rows_without-filter : (key : Key) (rows : List table.KeyRow) → map key_row_of (filter (λ row. not (is_same_key key row.key)) rows) ≡ rows_without key (map key_row_of rows)

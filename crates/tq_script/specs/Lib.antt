@@ -1,5 +1,6 @@
 pub mod Cutting
 pub mod Kinds
+pub mod Named
 pub mod Numerals
 pub mod Places
 pub mod Reads

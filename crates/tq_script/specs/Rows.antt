@@ -1,7 +1,7 @@
 -- The rows of the table and what was given, as the grammar has them.
 use Rattle.std.specs.Prelude.{Bool}
 use Rattle.tq_model.specs.Grammar as grammar
-use Rattle.tq_script.specs.declared.keys.Given.{Given}
+use Rattle.tq_script.specs.declared.given.Given.{Given}
 use Rattle.tq_script.specs.declared.table.KeyRow.{KeyRow}
 
 abbrev pub key_row_of : KeyRow → grammar.KeyRow

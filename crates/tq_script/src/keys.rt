@@ -1,24 +1,19 @@
-ghost use Rattle.std.specs.Prelude.{◌≡◌, [], map};
+ghost use Rattle.std.specs.Prelude.{◌≡◌, [], map, IfOk, Some};
 ghost use Rattle.std.specs.List.{list_any};
 ghost use Rattle.std.specs.Option.{option_map};
-ghost use Rattle.tq_model.specs.Grammar.{Spelt, is_same_key, key_among, keyed_value, rows_without, scan_keyed};
+ghost use Rattle.tq_model.specs.Grammar.{Spelt, given_of as given_of_row, key_among, keyed_value, rows_without, scan_keyed};
 ghost use Rattle.tq_script.specs.Cutting.{words_of};
 ghost use Rattle.tq_script.specs.Reads.{ReadsAs};
 ghost use Rattle.tq_script.specs.Rows.{given_of, is_required, key_row_of};
 
 use crate::bytes::position_of;
 use crate::cutting::Words;
-use crate::table::{KeyRow, key_word, value_of};
+use crate::given::{Given, is_same_key};
+use crate::table::{KeyRow, key_word};
 use crate::unread::Unread;
-use std::alloc::Global;
-use tq_model::{Key, Value};
-
-/// A key that was given, and its value.
-#[derive(Debug, Drop)]
-pub struct Given {
-    pub key: Key,
-    pub value: Value,
-}
+use crate::values::value_of;
+use std::alloc::{AllocError, Global};
+use tq_model::Key;
 
 /// What the words give, each of them a key of the rows, at most once, and its value.
 pub fn read_keyed(alloc: Global, rows: &[KeyRow], words: Words<'_>) -> Result<Vec<Given>, Unread>
@@ -30,7 +25,7 @@ pub fn read_keyed(alloc: Global, rows: &[KeyRow], words: Words<'_>) -> Result<Ve
     let mut given = Vec::new(alloc);
     let mut words = words;
     while let Some((word, rest)) = words.split_first() {
-        let Some(next) = keyed_value(&left, word.bytes) else {
+        let Some(next) = keyed_value(alloc, &left, word.bytes)? else {
             return Err(Unread::Misfit(word.column));
         };
         remove_key(&mut left, next.key);
@@ -55,24 +50,30 @@ fn remove_key(rows: &mut Vec<KeyRow>, key: Key)
     rows.retain(|row| !is_same_key(key, row.key));
 }
 
-/// Whether the keys are one.
-pub fn is_same_key(one: Key, other: Key) -> bool
-    ensures { result ≡ is_same_key one other }
+/// What a keyed word gives: a key of the rows, an equals sign and a value of the key's kind.
+fn keyed_value(alloc: Global, rows: &[KeyRow], word: &[u8]) -> Result<Option<Given>, AllocError>
+    ensures { IfOk result (λ given. option_map given_of given ≡ keyed_value (map key_row_of rows.now) word.now) }
 {
-    one == other
+    let Some(equals) = position_of(b'=', word) else {
+        return Ok(None);
+    };
+    match key_among(rows, &word[..equals]) {
+        Some(row) => given_with(alloc, row, &word[equals + 1..]),
+        None => Ok(None),
+    }
 }
 
-/// What a keyed word gives: a key of the rows, an equals sign and a value of the key's kind.
-fn keyed_value(rows: &[KeyRow], word: &[u8]) -> Option<Given>
-    ensures { option_map given_of result ≡ keyed_value (map key_row_of rows.now) word.now }
+/// What is given by the key of that row and the text behind its equals sign.
+fn given_with(alloc: Global, row: KeyRow, text: &[u8]) -> Result<Option<Given>, AllocError>
+    ensures { IfOk result (λ given. option_map given_of given ≡ given_of_row (Some (key_row_of row)) text.now) }
 {
-    let equals = position_of(b'=', word)?;
-    let row = key_among(rows, &word[..equals])?;
-    let value = value_of(row.kind, &word[equals + 1..])?;
-    Some(Given {
-        key: row.key,
-        value,
-    })
+    match value_of(alloc, row.kind, text)? {
+        Some(value) => Ok(Some(Given {
+            key: row.key,
+            value,
+        })),
+        None => Ok(None),
+    }
 }
 
 fn key_among(rows: &[KeyRow], name: &[u8]) -> Option<KeyRow>

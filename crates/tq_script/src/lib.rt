@@ -4,6 +4,8 @@
 
 mod bytes;
 mod cutting;
+mod flags;
+mod given;
 mod keys;
 mod lines;
 mod numerals;
@@ -12,7 +14,9 @@ mod requests;
 mod table;
 #[cfg(test)]
 mod tests;
+mod texts;
 mod unread;
+mod values;
 
 pub use lines::first_line;
 pub use requests::parse;

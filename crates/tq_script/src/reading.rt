@@ -7,9 +7,11 @@ ghost use Rattle.tq_script.specs.Reads.{ReadsAs, with_read};
 ghost use Rattle.tq_script.specs.Rows.{given_of};
 
 use crate::cutting::Words;
-use crate::keys::{Given, read_keyed};
-use crate::table::{row_of, value_of};
+use crate::given::Given;
+use crate::keys::read_keyed;
+use crate::table::row_of;
 use crate::unread::Unread;
+use crate::values::value_of;
 use std::alloc::Global;
 use tq_model::{Kind, Value, Verb};
 
@@ -42,7 +44,7 @@ fn read_positional<'a>(
     let mut values = Vec::new(alloc);
     let mut words = words;
     for kind in kinds {
-        let (value, rest) = read_value(*kind, words)?;
+        let (value, rest) = read_value(alloc, *kind, words)?;
         values.push(value)?;
         words = rest;
     }
@@ -50,7 +52,7 @@ fn read_positional<'a>(
 }
 
 /// The value of the first word and the words behind it.
-fn read_value<'a>(kind: Kind, words: Words<'a>) -> Result<(Value, Words<'a>), Unread>
+fn read_value<'a>(alloc: Global, kind: Kind, words: Words<'a>) -> Result<(Value, Words<'a>), Unread>
     ensures { (kinds : List grammar_kind.Kind) (rows : List grammar.KeyRow) → ReadsAs result
         (scan (kind ∷ kinds) rows (words_of words.entry.column words.entry.rest.now))
         (λ read. with_value read.0 (scan kinds rows (words_of read.1.column read.1.rest.now))) }
@@ -58,7 +60,7 @@ fn read_value<'a>(kind: Kind, words: Words<'a>) -> Result<(Value, Words<'a>), Un
     let Some((word, rest)) = words.split_first() else {
         return Err(Unread::Missing);
     };
-    match value_of(kind, word.bytes) {
+    match value_of(alloc, kind, word.bytes)? {
         Some(value) => Ok((value, rest)),
         None => Err(Unread::Misfit(word.column)),
     }

@@ -1,16 +1,23 @@
-ghost use Rattle.std.specs.Prelude.{◌≡◌, ◌<◌, ◌^◌, IfOk, map};
-ghost use Rattle.tq_model.specs.Grammar.{line_request, number_given, number_in, request_of, row_of, scan, scanned};
+ghost use Rattle.std.specs.Prelude.{◌≡◌, ◌<◌, ◌^◌, List, IfOk, map};
+ghost use Rattle.tq_model.specs.Grammar as grammar;
+ghost use Rattle.tq_model.specs.Grammar.{dequeue_words, enqueue_words, line_request, request_of, row_of, scan, scanned, space_creation, space_keys};
 ghost use Rattle.tq_script.specs.Cutting.{words_of};
-ghost use Rattle.tq_script.specs.Kinds.{AreOfKinds};
+ghost use Rattle.tq_script.specs.Kinds.{AreOfKinds, AreOfRows};
 ghost use Rattle.tq_script.specs.Rows.{given_of};
 
 use crate::cutting::{LONGEST_LINE, Words};
-use crate::keys::{Given, is_same_key};
+use crate::given::{
+    Given, error_given, flags_in, number_given, number_needed, take_given, text_in,
+};
 use crate::reading::read_words;
 use crate::table::verb_named;
 use crate::unread::Unread;
 use std::alloc::{AllocError, Global};
-use tq_model::{Creation, DeviceRequest, Key, Request, Value, Verb};
+use tq_model::{
+    CallRequest, Creation, DequeueWords, DeviceRequest, EnqueueWords, Key, QueueCreation, Request,
+    SpaceCreation, SpaceRequest, Value, Verb,
+};
+use tq_types::Name;
 
 /// What the line asks for, its end left out: Nothing where it is empty or a comment, TooLong where
 /// it has more than 262,144 bytes, Bad with the column of what does not fit.
@@ -44,7 +51,7 @@ fn verb_request(
         (scan (row_of verb).positional (row_of verb).keyed (words_of words.entry.column words.entry.rest.now))) }
 {
     match read_words(alloc, verb, words) {
-        Ok((values, given)) => Ok(request_of(verb, &values, &given)),
+        Ok((values, given)) => request_of(alloc, verb, &values, given),
         Err(Unread::Misfit(column)) => Ok(Request::Bad(column)),
         Err(Unread::Missing) => Ok(Request::Bad(size + 1)),
         Err(Unread::Memory) => Err(AllocError),
@@ -52,41 +59,159 @@ fn verb_request(
 }
 
 /// What a verb with these values asks for.
-fn request_of(verb: Verb, values: &[Value], given: &[Given]) -> Request
-    requires { AreOfKinds (row_of verb).positional values.now }
-    ensures { result ≡ request_of verb values.now (map given_of given.now) }
+fn request_of(
+    alloc: Global,
+    verb: Verb,
+    values: &[Value],
+    given: Vec<Given>,
+) -> Result<Request, AllocError>
+    requires values { AreOfKinds (row_of verb).positional values.now }
+    requires given { AreOfRows (row_of verb).keyed (map given_of given.items) }
+    ensures { IfOk result (λ request. request ≡ request_of verb values.now (map given_of given.items)) }
 {
-    match (verb, values) {
-        (Verb::CreateDevice, [Value::Number(dev), Value::Number(clusters)]) => {
-            Request::Device(DeviceRequest::Create(Creation {
-                dev: *dev as u8,
-                clusters: *clusters,
-                site: number_given(Key::Site, given),
-            }))
-        }
-        (Verb::ListDevice, [Value::Number(dev)]) => Request::Device(DeviceRequest::List(
-            *dev as u8,
-        )),
-        _ => Request::Nothing,
+    match verb {
+        Verb::CreateDevice => Ok(create_device(values, &given)),
+        Verb::ListDevice => Ok(list_device(values)),
+        Verb::CreateSpace => Ok(create_space(values, &given)),
+        Verb::CreateQueue => Ok(create_queue(values)),
+        Verb::Enqueue => enqueue(alloc, values, given),
+        Verb::Dequeue => Ok(dequeue(alloc, values, given)),
     }
 }
 
-/// The number that was given with the key.
-fn number_given(key: Key, given: &[Given]) -> Option<u64>
-    ensures { result ≡ number_given key (map given_of given.now) }
+fn create_device(values: &[Value], given: &[Given]) -> Request
+    requires { AreOfKinds (row_of Verb.CreateDevice).positional values.now }
+    ensures { result ≡ request_of Verb.CreateDevice values.now (map given_of given.now) }
 {
-    for each in given {
-        if is_same_key(key, each.key) {
-            return number_in(&each.value);
-        }
-    }
-    None
+    let [Value::Number(dev), Value::Number(clusters)] = values else {
+        return Request::Nothing;
+    };
+    Request::Device(DeviceRequest::Create(Creation {
+        dev: *dev as u8,
+        clusters: *clusters,
+        site: number_given(Key::Site, given),
+    }))
 }
 
-fn number_in(value: &Value) -> Option<u64>
-    ensures { result ≡ number_in value.now }
+fn list_device(values: &[Value]) -> Request
+    requires { AreOfKinds (row_of Verb.ListDevice).positional values.now }
+    ensures { (given : List grammar.Given) → result ≡ request_of Verb.ListDevice values.now given }
 {
-    match value {
-        Value::Number(number) => Some(*number),
+    let [Value::Number(dev)] = values else {
+        return Request::Nothing;
+    };
+    Request::Device(DeviceRequest::List(*dev as u8))
+}
+
+fn create_space(values: &[Value], given: &[Given]) -> Request
+    requires { AreOfRows space_keys (map given_of given.now) }
+    ensures { result ≡ request_of Verb.CreateSpace values.now (map given_of given.now) }
+{
+    let [Value::Name(name)] = values else {
+        return Request::Nothing;
+    };
+    Request::Space(SpaceRequest::Create(space_creation(*name, given)))
+}
+
+fn space_creation(name: Name, given: &[Given]) -> SpaceCreation
+    requires { AreOfRows space_keys (map given_of given.now) }
+    ensures { result ≡ space_creation name (map given_of given.now) }
+{
+    SpaceCreation {
+        name,
+        dev: number_needed(Key::Dev, given) as u8,
+        pages: number_needed(Key::Pages, given),
+        queues: number_needed(Key::Queues, given),
+        transactions: number_needed(Key::Transactions, given),
+        messages: number_needed(Key::Messages, given),
+        error: error_given(Key::Error, given),
+        memory: number_needed(Key::Memory, given),
+    }
+}
+
+fn create_queue(values: &[Value]) -> Request
+    ensures { (given : List grammar.Given) → result ≡ request_of Verb.CreateQueue values.now given }
+{
+    let [Value::Name(space), Value::Name(queue)] = values else {
+        return Request::Nothing;
+    };
+    Request::Space(SpaceRequest::CreateQueue(QueueCreation {
+        space: *space,
+        queue: *queue,
+    }))
+}
+
+fn enqueue(alloc: Global, values: &[Value], given: Vec<Given>) -> Result<Request, AllocError>
+    requires { AreOfKinds (row_of Verb.Enqueue).positional values.now }
+    ensures { IfOk result (λ request. request ≡ request_of Verb.Enqueue values.now (map given_of given.items)) }
+{
+    let [
+        Value::Number(session),
+        Value::Name(space),
+        Value::Name(queue),
+    ] = values
+    else {
+        return Ok(Request::Nothing);
+    };
+    let words = enqueue_words(alloc, *space, *queue, given)?;
+    Ok(Request::Call(CallRequest::Enqueue(*session as u8, words)))
+}
+
+fn enqueue_words(
+    alloc: Global,
+    space: Name,
+    queue: Name,
+    given: Vec<Given>,
+) -> Result<EnqueueWords, AllocError>
+    ensures { IfOk result (λ words. words ≡ enqueue_words space queue (map given_of given.items)) }
+{
+    let mut given = given;
+    let flags = flags_in(alloc, take_given(Key::Flags, &mut given));
+    let body = text_in(alloc, take_given(Key::Data, &mut given))?;
+    Ok(EnqueueWords {
+        space,
+        queue,
+        notran: false,
+        flags,
+        prio: None,
+        deqtime: None,
+        exptime: None,
+        msgid: None,
+        corr: None,
+        replyq: None,
+        failq: None,
+        qos: None,
+        rqos: None,
+        body,
+    })
+}
+
+fn dequeue(alloc: Global, values: &[Value], given: Vec<Given>) -> Request
+    requires { AreOfKinds (row_of Verb.Dequeue).positional values.now }
+    ensures { result ≡ request_of Verb.Dequeue values.now (map given_of given.items) }
+{
+    let [
+        Value::Number(session),
+        Value::Name(space),
+        Value::Name(queue),
+    ] = values
+    else {
+        return Request::Nothing;
+    };
+    let words = dequeue_words(alloc, *space, *queue, given);
+    Request::Call(CallRequest::Dequeue(*session as u8, words))
+}
+
+fn dequeue_words(alloc: Global, space: Name, queue: Name, given: Vec<Given>) -> DequeueWords
+    ensures { result ≡ dequeue_words space queue (map given_of given.items) }
+{
+    let mut given = given;
+    DequeueWords {
+        space,
+        queue,
+        notran: false,
+        flags: flags_in(alloc, take_given(Key::Flags, &mut given)),
+        msgid: None,
+        corr: None,
     }
 }

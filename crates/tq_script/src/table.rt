@@ -1,11 +1,10 @@
-//! The verbs, their words and their keys, and how each kind of word is read.
+//! The verbs, their words and their keys.
 
 ghost use Rattle.std.specs.Prelude.{◌≡◌, map};
-ghost use Rattle.tq_model.specs.Grammar.{key_word, row_of, value_of, verb_named, verb_word};
+ghost use Rattle.tq_model.specs.Grammar.{key_word, row_of, verb_named, verb_word};
 ghost use Rattle.tq_script.specs.Rows.{key_row_of};
 
-use crate::numerals::number_between;
-use tq_model::{Key, Kind, Value, Verb};
+use tq_model::{Key, Kind, Verb};
 
 /// A key of a verb.
 #[derive(Clone, Copy)]
@@ -22,8 +21,36 @@ pub struct Row {
     pub keyed: &'static [KeyRow],
 }
 
+/// A key that has to be given.
+macro_rules! needed {
+    ($key:ident, $kind:ident) => {
+        KeyRow {
+            key: Key::$key,
+            kind: Kind::$kind,
+            required: true,
+        }
+    };
+}
+
+macro_rules! optional {
+    ($key:ident, $kind:ident) => {
+        KeyRow {
+            key: Key::$key,
+            kind: Kind::$kind,
+            required: false,
+        }
+    };
+}
+
 /// Every verb.
-const VERBS: [Verb; 2] = [Verb::CreateDevice, Verb::ListDevice];
+const VERBS: [Verb; 6] = [
+    Verb::CreateDevice,
+    Verb::ListDevice,
+    Verb::CreateSpace,
+    Verb::CreateQueue,
+    Verb::Enqueue,
+    Verb::Dequeue,
+];
 
 /// What stands behind a verb.
 pub fn row_of(verb: Verb) -> Row
@@ -33,15 +60,35 @@ pub fn row_of(verb: Verb) -> Row
     match verb {
         Verb::CreateDevice => Row {
             positional: &[Kind::Device, Kind::Number],
-            keyed: &[KeyRow {
-                key: Key::Site,
-                kind: Kind::Number,
-                required: false,
-            }],
+            keyed: &[optional!(Site, Number)],
         },
         Verb::ListDevice => Row {
             positional: &[Kind::Device],
             keyed: &[],
+        },
+        Verb::CreateSpace => Row {
+            positional: &[Kind::Name],
+            keyed: &[
+                needed!(Dev, Device),
+                needed!(Pages, Number),
+                needed!(Queues, Number),
+                needed!(Transactions, Number),
+                needed!(Messages, Number),
+                needed!(Error, ErrorName),
+                needed!(Memory, Number),
+            ],
+        },
+        Verb::CreateQueue => Row {
+            positional: &[Kind::Name, Kind::Name],
+            keyed: &[],
+        },
+        Verb::Enqueue => Row {
+            positional: &[Kind::Session, Kind::Name, Kind::Name],
+            keyed: &[optional!(Flags, Flags), needed!(Data, Text)],
+        },
+        Verb::Dequeue => Row {
+            positional: &[Kind::Session, Kind::Name, Kind::Name],
+            keyed: &[optional!(Flags, Flags)],
         },
     }
 }
@@ -52,6 +99,10 @@ fn verb_word(verb: Verb) -> &'static [u8]
     match verb {
         Verb::CreateDevice => b"crdl",
         Verb::ListDevice => b"lidl",
+        Verb::CreateSpace => b"qspacecreate",
+        Verb::CreateQueue => b"qcreate",
+        Verb::Enqueue => b"tpenqueue",
+        Verb::Dequeue => b"tpdequeue",
     }
 }
 
@@ -60,6 +111,15 @@ pub fn key_word(key: Key) -> &'static [u8]
 {
     match key {
         Key::Site => b"site",
+        Key::Dev => b"dev",
+        Key::Pages => b"pages",
+        Key::Queues => b"queues",
+        Key::Transactions => b"trans",
+        Key::Messages => b"msgs",
+        Key::Error => b"error",
+        Key::Memory => b"memory",
+        Key::Flags => b"flags",
+        Key::Data => b"data",
     }
 }
 
@@ -73,14 +133,4 @@ pub fn verb_named(word: &[u8]) -> Option<Verb>
         }
     }
     None
-}
-
-/// What the word spells; None where it is not of the kind.
-pub fn value_of(kind: Kind, word: &[u8]) -> Option<Value>
-    ensures { result ≡ value_of kind word.now }
-{
-    match kind {
-        Kind::Device => number_between(0, 7, word),
-        Kind::Number => number_between(0, u64::MAX, word),
-    }
 }

@@ -1,5 +1,5 @@
 -- What the moves change in sums over all entries.
-use Rattle.std.proofs.Common.{◌≡◌, ℕ, ◌+◌, ◌<◌, ◌≤◌, ◌||◌, Bool, true, false, cond, not, List, [], ◌∷◌, map, length, get_or, suc, refl, sym, ap, ◌∙◌, subst, arith, Option, Some, None, ltb, ltb-true, ltb-false}
+use Rattle.std.proofs.Common.{◌≡◌, ℕ, ◌+◌, ◌<◌, ◌||◌, Bool, true, false, cond, List, [], ◌∷◌, map, length, get_or, refl, sym, ap, ◌∙◌, subst, arith, Option, Some, None, ltb, ltb-true, ltb-false}
 use Rattle.std.specs.Prelude.{is_some}
 use Rattle.std.specs.List.{list_any, find, position_or_len, insert, remove, sum_by}
 use Rattle.std.proofs.lemmas.List.{get_or-map, length-map}
@@ -33,7 +33,7 @@ total_inserted g n item more index (q ∷ qs) =
       | false ↦ λ h. let after = total-cons g q (item_inserted index item qs) in let rest = total_inserted g n item more index qs h in omega arith
     ]
 
-any-find : {X : Type 0} (p : X → Bool) (xs : List X) → list_any p xs ≡ is_some (find p xs)
+pub any-find : {X : Type 0} (p : X → Bool) (xs : List X) → list_any p xs ≡ is_some (find p xs)
 any-find p [] = refl
 any-find p (x ∷ xs) = elim (p x) as (λ b. b || list_any p xs ≡ is_some (cond b (Some x) (find p xs))) [ true ↦ refl | false ↦ any-find p xs ]
 
@@ -51,11 +51,11 @@ removed_nothing id (q ∷ qs) =
       | false ↦ λ some h. ap (λ (l : List IndexedQueue). q ∷ l) (removed_nothing id qs h)
     ] (any-find (has_id id) q.queue.items)
 
-found-place : (p : Item → Bool) (xs : List Item) (item : Item) → find p xs ≡ Some item → (position_or_len p xs < length xs) × (get_or xs (position_or_len p xs) item ≡ item)
-found-place p xs item found =
+pub found-place : {X : Type 0} (p : X → Bool) (xs : List X) (x : X) → find p xs ≡ Some x → (position_or_len p xs < length xs) × (get_or xs (position_or_len p xs) x ≡ x)
+found-place p xs x found =
     let any : list_any p xs ≡ true = any-find p xs ∙ ap is_some found in
     let below : position_or_len p xs < length xs = ltb-true (position_or_len p xs) (length xs) (sym (list_any-place p xs) ∙ any) in
-    let same : Some (get_or xs (position_or_len p xs) item) ≡ Some item = sym (find-at p item xs below) ∙ found in
+    let same : Some (get_or xs (position_or_len p xs) x) ≡ Some x = sym (find-at p x xs below) ∙ found in
     (below, cc)
 
 -- the entry of the identifier goes

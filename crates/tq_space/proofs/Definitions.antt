@@ -1,13 +1,13 @@
 -- What a changed definition of a queue, and a dropped queue, leave.
-use Rattle.std.proofs.Common.{◌≡◌, ℕ, suc, ◌+◌, ◌<◌, ◌≤◌, ◌==◌, Bool, true, false, List, [], ◌∷◌, ◌++◌, map, length, get_or, set, take, drop, refl, sym, ap, ◌∙◌, subst, arith, Option, Some, None, vec_len, vec_capacity}
-use Rattle.std.specs.List.{All, find, position, position_or_len, remove, sum_by, count_by}
+use Rattle.std.proofs.Common.{◌≡◌, ℕ, suc, ◌+◌, ◌<◌, ◌≤◌, ◌==◌, List, [], ◌∷◌, map, length, get_or, set, take, drop, refl, sym, ap, ◌∙◌, subst, arith, Option, Some, None, vec_len, vec_capacity}
+use Rattle.std.specs.List.{find, position, position_or_len, remove, count_by}
 use Rattle.std.proofs.lemmas.List.{map-set, get_or-map, length-map}
 use Rattle.std.proofs.lemmas.List.Elements.{All-append, All-take, All-drop}
 use Rattle.std.proofs.lemmas.List.Sums.{sum_by-remove}
 use Rattle.tq_types.specs.declared.messages.Entry.{Entry}
 use Rattle.tq_model.specs.declared.space.QueueDef.{QueueDef}
 use Rattle.tq_model.specs.Space.{Queue, change_first}
-use Rattle.tq_model.specs.Moves.{IndexedQueue, queue_of, has_index, on_queue, queue_dropped}
+use Rattle.tq_model.specs.Moves.{queue_of, has_index, on_queue, queue_dropped}
 use Rattle.tq_space.specs.declared.shelf.HeldQueue.{HeldQueue}
 use Rattle.tq_space.specs.Slots.{item_at}
 use Rattle.tq_space.specs.Plain.{HasNoEntries}

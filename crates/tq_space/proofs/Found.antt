@@ -1,8 +1,8 @@
 -- What is found on a shelf.
-use Rattle.std.proofs.Common.{◌≡◌, ℕ, ◌+◌, ◌<◌, ◌≤◌, ◌==◌, Bool, true, false, cond, List, [], ◌∷◌, map, length, get_or, refl, sym, ap, ◌∙◌, subst, arith, Option, Some, None, option_map, ltb}
+use Rattle.std.proofs.Common.{◌≡◌, ℕ, ◌+◌, ◌<◌, ◌==◌, Bool, true, List, [], ◌∷◌, map, length, get_or, refl, sym, ap, ◌∙◌, subst, arith, Option, Some, None, option_map, ltb}
 use Rattle.std.specs.Prelude.{is_some}
 use Rattle.std.specs.Str.{bytes_eq}
-use Rattle.std.specs.List.{All, list_any, find, position, position_or_len, sum_by, count_by}
+use Rattle.std.specs.List.{All, list_any, find, position, position_or_len, count_by}
 use Rattle.std.proofs.lemmas.List.{get_or-map, length-map}
 use Rattle.std.proofs.lemmas.List.Elements.{All-map}
 use Rattle.std.proofs.lemmas.List.Sums.{sum_by-cons}
@@ -18,12 +18,22 @@ use Rattle.tq_space.specs.Reads.{indexed_named, HasDistinctIndices}
 use Rattle.tq_space.proofs.Places.{position_or_len-map, position-found, position-none, list_any-place, some-cond, find-at, find-none}
 use Rattle.tq_space.proofs.Keys.{hit, all_kept, place-items, first_holding, item_with_id-at}
 
+-- tests of the queues that are seen, and of those that are kept, with one first place
+any_seen : (slots : List (Option Entry)) (queues : List HeldQueue) (seen : IndexedQueue → Bool) (kept : HeldQueue → Bool)
+    → position_or_len seen (map (indexed_at slots) queues) ≡ position_or_len kept queues → list_any seen (map (indexed_at slots) queues) ≡ is_some (position kept queues)
+any_seen slots queues seen kept same =
+    list_any-place seen (map (indexed_at slots) queues)
+    ∙ (λ i. ltb (same i) (length-map queues (indexed_at slots) i))
+    ∙ sym (some-cond (ltb (position_or_len kept queues) (length queues)) (position_or_len kept queues))
+
 pub index_any : (slots : List (Option Entry)) (queues : List HeldQueue) (index : ℕ)
     → list_any (has_index index) (map (indexed_at slots) queues) ≡ is_some (position (λ q. q.index == index) queues)
-index_any slots queues index =
-    list_any-place (has_index index) (map (indexed_at slots) queues)
-    ∙ (λ i. ltb (position_or_len-map (indexed_at slots) (has_index index) queues i) (length-map queues (indexed_at slots) i))
-    ∙ sym (some-cond (ltb (position_or_len (λ (q : HeldQueue). q.index == index) queues) (length queues)) (position_or_len (λ (q : HeldQueue). q.index == index) queues))
+index_any slots queues index = any_seen slots queues (has_index index) (λ q. q.index == index) (position_or_len-map (indexed_at slots) (has_index index) queues)
+
+pub id_any : (slots : List (Option Entry)) (queues : List HeldQueue) → IsListed slots queues → (id : MsgId)
+    → list_any (indexed_holds id) (map (indexed_at slots) queues) ≡ is_some (position (λ q. is_some (position (λ k. slot_test (has_id id) (slot_at slots k)) q.keys.items)) queues)
+id_any slots queues listed id =
+    any_seen slots queues (indexed_holds id) (λ q. is_some (position (λ k. slot_test (has_id id) (slot_at slots k)) q.keys.items)) (first_holding slots queues listed id)
 
 pub named_none : (slots : List (Option Entry)) (queues : List HeldQueue) (name : List ℕ) → position (λ q. bytes_eq q.def.name name) queues ≡ None
     → find (indexed_named name) (map (indexed_at slots) queues) ≡ None

@@ -1,19 +1,17 @@
 -- What an insert leaves.
-use Rattle.std.proofs.Common.{◌≡◌, ◌≢◌, ℕ, suc, ◌+◌, ◌<◌, ◌≤◌, ◌==◌, Bool, true, false, cond, List, [], ◌∷◌, ◌++◌, map, length, get_or, set, refl, sym, ap, ◌∙◌, subst, arith, Option, Some, None, eq-eqb, eqb-true, length-set, option_map, ltb}
-use Rattle.std.specs.Prelude.{is_some}
-use Rattle.std.specs.List.{All, list_any, find, position, position_or_len, insert, remove, sum_by, count_by}
-use Rattle.std.proofs.lemmas.List.{map-set, get_or-map, length-map}
-use Rattle.std.proofs.lemmas.List.Sums.{sum_by-cons, sum_by-set, sum_by-insert, sum_by-remove, get_or-le-sum_by}
-use Rattle.tq_types.specs.declared.identifiers.MsgId.{MsgId}
+use Rattle.std.proofs.Common.{◌≡◌, ◌≢◌, ℕ, ◌+◌, ◌<◌, ◌==◌, List, map, length, get_or, set, sym, ap, ◌∙◌, subst, arith, Option, Some, None, eq-eqb}
+use Rattle.std.specs.List.{position, position_or_len, insert, count_by}
+use Rattle.std.proofs.lemmas.List.{map-set, get_or-map}
+use Rattle.std.proofs.lemmas.List.Sums.{sum_by-insert, get_or-le-sum_by}
 use Rattle.tq_types.specs.declared.messages.Entry.{Entry}
-use Rattle.tq_model.specs.Space.{Item, Queue, change_first, has_id, stands_before, with_item, without_item, holds_id}
-use Rattle.tq_model.specs.Moves.{IndexedQueue, item_of, queue_of, has_index, on_queue, item_inserted, item_removed, indexed_holds, item_with_id}
+use Rattle.tq_model.specs.Space.{stands_before, with_item}
+use Rattle.tq_model.specs.Moves.{item_of, queue_of, has_index, on_queue, item_inserted}
 use Rattle.tq_space.specs.declared.shelf.HeldQueue.{HeldQueue}
 use Rattle.tq_space.specs.Slots.{slot_item, slot_at, item_at, slot_test, slot_count, IsPlainSlot, label_before}
 use Rattle.tq_space.specs.Plain.{IsPlainEntry}
 use Rattle.tq_space.specs.Shelf.{indexed_at, key_count, IsListed}
-use Rattle.tq_space.proofs.Places.{position_or_len-map, position_or_len-agree, position-found, position-none, change_first-at, change_first-past, list_any-place, map-insert, map-remove, some-cond, find-at}
-use Rattle.tq_space.proofs.Keys.{hit, all_kept, place-items, frame_keys, frame, IsRekeyed, counted, same_indices, by_key, count-most}
+use Rattle.tq_space.proofs.Places.{position_or_len-map, position-found, change_first-at, map-insert}
+use Rattle.tq_space.proofs.Keys.{hit, all_kept, place-items, frame_keys, frame, IsRekeyed, counted, same_indices, by_key}
 
 module _ (slots slots' : List (Option Entry)) (queues : List HeldQueue) (listed : IsListed slots queues) (at : ℕ) (d : HeldQueue)
     (within : at < length queues) (q' : HeldQueue) (key place : ℕ) (e : Entry)

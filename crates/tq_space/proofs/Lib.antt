@@ -9,3 +9,5 @@ pub mod Definitions
 pub mod Counts
 pub mod Steps
 pub mod Taken
+pub mod PlanMoves
+pub mod Indices

@@ -1,10 +1,9 @@
 -- First places in lists.
-use Rattle.std.proofs.Common.{suc, inl, inr, ◌≡◌, ◌≢◌, ℕ, ◌+◌, ◌<◌, ◌≤◌, Bool, true, false, cond, not, ◌||◌, List, [], ◌∷◌, ◌++◌, map, length, get_or, set, take, drop, refl, sym, ap, ◌∙◌, subst, arith, Option, Some, None, ltb, ltb-true, ltb-false, lt-ltb, le-ltb, unwrap_or}
+use Rattle.std.proofs.Common.{suc, ◌≡◌, ℕ, ◌+◌, ◌<◌, ◌≤◌, Bool, true, false, cond, not, ◌||◌, List, [], ◌∷◌, ◌++◌, map, length, get_or, set, take, drop, refl, sym, ap, ◌∙◌, subst, arith, Some, None, ltb, ltb-true, ltb-false, lt-ltb, le-ltb, unwrap_or}
 use Rattle.std.specs.Prelude.{is_some}
-use Rattle.std.specs.List.{All, list_any, find, position, position_or_len, insert, remove, sum_by}
-use Rattle.std.proofs.lemmas.List.{map-append, take-map, drop-map, get_or-map, take_all, drop_all, append-nil}
+use Rattle.std.specs.List.{All, list_any, find, position, position_or_len, insert, remove}
+use Rattle.std.proofs.lemmas.List.{map-append, take-map, drop-map, take_all, drop_all, append-nil}
 use Rattle.std.proofs.lemmas.List.Elements.{All-head, All-tail}
-use Rattle.std.proofs.lemmas.List.Sums.{sum_by-cons}
 use Rattle.tq_model.specs.Space.{change_first}
 
 pub position_or_len-map : {X Y : Type 0} (f : X → Y) (p : Y → Bool) (xs : List X) → position_or_len p (map f xs) ≡ position_or_len (λ x. p (f x)) xs

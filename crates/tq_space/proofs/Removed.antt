@@ -1,19 +1,18 @@
 -- What a removal leaves.
-use Rattle.std.proofs.Common.{◌≡◌, ◌≢◌, ℕ, suc, ◌+◌, ◌<◌, ◌≤◌, ◌==◌, Bool, true, false, cond, List, [], ◌∷◌, ◌++◌, map, length, get_or, set, refl, sym, ap, ◌∙◌, subst, arith, Option, Some, None, eq-eqb, eqb-true, length-set, option_map, ltb}
+use Rattle.std.proofs.Common.{◌≡◌, ◌≢◌, ℕ, ◌+◌, ◌<◌, ◌==◌, true, List, map, length, get_or, set, refl, sym, ap, ◌∙◌, subst, arith, Option, Some, None, eq-eqb, option_map}
 use Rattle.std.specs.Prelude.{is_some}
-use Rattle.std.specs.List.{All, list_any, find, position, position_or_len, insert, remove, sum_by, count_by}
+use Rattle.std.specs.List.{find, position, position_or_len, remove, count_by}
 use Rattle.std.proofs.lemmas.List.{map-set, get_or-map, length-map}
-use Rattle.std.proofs.lemmas.List.Sums.{sum_by-cons, sum_by-set, sum_by-insert, sum_by-remove, get_or-le-sum_by}
+use Rattle.std.proofs.lemmas.List.Sums.{sum_by-remove}
 use Rattle.tq_types.specs.declared.identifiers.MsgId.{MsgId}
 use Rattle.tq_types.specs.declared.messages.Entry.{Entry}
-use Rattle.tq_model.specs.Space.{Item, Queue, change_first, has_id, stands_before, with_item, without_item, holds_id}
-use Rattle.tq_model.specs.Moves.{IndexedQueue, item_of, queue_of, has_index, on_queue, item_inserted, item_removed, indexed_holds, item_with_id}
+use Rattle.tq_model.specs.Space.{has_id, without_item}
+use Rattle.tq_model.specs.Moves.{IndexedQueue, item_of, queue_of, on_queue, item_removed, indexed_holds, item_with_id}
 use Rattle.tq_space.specs.declared.shelf.HeldQueue.{HeldQueue}
-use Rattle.tq_space.specs.Slots.{slot_item, slot_at, item_at, slot_test, slot_count, IsPlainSlot, label_before}
-use Rattle.tq_space.specs.Plain.{IsPlainEntry}
+use Rattle.tq_space.specs.Slots.{slot_item, slot_at, item_at, slot_test, slot_count, IsPlainSlot}
 use Rattle.tq_space.specs.Shelf.{indexed_at, key_count, IsListed}
-use Rattle.tq_space.proofs.Places.{position_or_len-map, position_or_len-agree, position-found, position-none, change_first-at, change_first-past, list_any-place, map-insert, map-remove, some-cond, find-at}
-use Rattle.tq_space.proofs.Keys.{hit, all_kept, place-items, first_holding, item_with_id-at, frame_keys, frame, IsRekeyed, counted, same_indices, by_key, count-most}
+use Rattle.tq_space.proofs.Places.{position-found, change_first-at, map-remove, find-at}
+use Rattle.tq_space.proofs.Keys.{hit, all_kept, place-items, first_holding, item_with_id-at, frame, IsRekeyed, counted, same_indices, by_key, count-most}
 
 module _ (slots slots' : List (Option Entry)) (queues : List HeldQueue) (listed : IsListed slots queues) (at : ℕ) (d : HeldQueue)
     (within : at < length queues) (q' : HeldQueue) (place : ℕ) (inside : place < length (get_or queues at d).keys.items)

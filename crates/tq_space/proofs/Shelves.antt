@@ -1,7 +1,7 @@
 -- What the calls of a shelf leave, in the form in which the code has it.
-use Rattle.std.proofs.Common.{◌≡◌, ◌≢◌, ℕ, ◌+◌, ◌-◌, ◌<◌, ◌≤◌, ◌==◌, Bool, true, List, [], ◌∷◌, map, length, length-set, get_or, set, take, drop, suc, false, cond, not, ◌||◌, ltb, ltb-true, eq-eqb, eqb-true, inl, inr, refl, sym, ap, ◌∙◌, subst, arith, Option, Some, None, option_map, vec_len, vec_capacity}
+use Rattle.std.proofs.Common.{◌≡◌, ◌≢◌, ℕ, ◌+◌, ◌<◌, ◌≤◌, ◌==◌, Bool, true, List, [], ◌∷◌, map, length, length-set, get_or, set, take, drop, false, cond, ◌||◌, eq-eqb, refl, sym, ap, ◌∙◌, subst, arith, Option, Some, None, option_map, vec_len, vec_capacity}
 use Rattle.std.specs.Prelude.{is_some}
-use Rattle.std.specs.List.{All, list_any, position, position_or_len, insert, remove, sum, sum_by, count_by}
+use Rattle.std.specs.List.{list_any, position, position_or_len, insert, remove, sum, sum_by, count_by}
 use Rattle.std.specs.Prelude.{OnSome, IfNone}
 use Rattle.slab.specs.Slab.{Slab, slab_len}
 use Rattle.std.proofs.lemmas.List.Elements.{All-set, All-append, All-take, All-drop, All-cons}
@@ -10,14 +10,14 @@ use Rattle.std.proofs.lemmas.List.Sums.{sum-map, sum_by-insert, sum_by-cons, pas
 use Rattle.tq_types.specs.declared.identifiers.MsgId.{MsgId}
 use Rattle.tq_types.specs.declared.messages.Entry.{Entry}
 use Rattle.tq_model.specs.Space.{has_id}
-use Rattle.tq_model.specs.Moves.{IndexedQueue, item_of, item_inserted, item_removed, item_with_id, has_index, queue_of, queue_added, comes_before}
+use Rattle.tq_model.specs.Moves.{item_of, item_inserted, item_removed, item_with_id, has_index, queue_of, queue_added, comes_before}
 use Rattle.tq_model.specs.declared.space.QueueDef.{QueueDef}
 use Rattle.tq_space.specs.declared.shelf.HeldQueue.{HeldQueue}
-use Rattle.tq_space.specs.Slots.{slot_at, slot_test, slot_count, item_at, label_before}
+use Rattle.tq_space.specs.Slots.{slot_at, slot_test, item_at, label_before}
 use Rattle.tq_space.specs.Plain.{IsPlainEntry}
-use Rattle.tq_space.specs.Shelf.{indexed_at, key_count, IsListed}
+use Rattle.tq_space.specs.Shelf.{indexed_at, IsListed}
 use Rattle.tq_space.specs.Grown.{HasRoomIn, IsGrown, AreGrown}
-use Rattle.tq_space.proofs.Places.{position-found, position_or_len-map, list_any-place, map-insert}
+use Rattle.tq_space.proofs.Places.{position-found, position_or_len-map, map-insert}
 use Rattle.tq_space.proofs.Keys.{IsRekeyed, hit, by_key}
 use Rattle.tq_space.proofs.Inserted as inserts
 use Rattle.tq_space.proofs.Removed as removals

@@ -1,7 +1,7 @@
 -- What plans and refusals have to do with the machine's steps.
-use Rattle.std.proofs.Common.{◌≡◌, ℕ, ◌+◌, ◌<◌, ◌≤◌, ◌==◌, ◌||◌, ◌&&◌, Bool, true, false, cond, not, List, [], ◌∷◌, map, filter, length, get_or, refl, sym, ap, ◌∙◌, subst, arith, Option, Some, None, option_map, eq-eqb, ltb, ltb-false, leb}
-use Rattle.std.specs.Prelude.{is_some, if◌then◌else◌, option_to_list}
-use Rattle.std.specs.List.{All, list_any, find, sum_by, count_by}
+use Rattle.std.proofs.Common.{◌≡◌, ℕ, ◌+◌, ◌≤◌, ◌||◌, ◌&&◌, Bool, true, false, cond, not, List, [], ◌∷◌, map, filter, length, get_or, refl, sym, ap, ◌∙◌, subst, arith, Option, Some, None, option_map, eq-eqb, ltb-false}
+use Rattle.std.specs.Prelude.{if◌then◌else◌, option_to_list}
+use Rattle.std.specs.List.{All, list_any, find, count_by}
 use Rattle.std.proofs.lemmas.List.Elements.{All-head, All-tail}
 use Rattle.std.proofs.lemmas.List.Sums.{sum_by-cons}
 use Rattle.tq_types.specs.declared.identifiers.Arrival.{Arrival}
@@ -11,19 +11,17 @@ use Rattle.tq_types.specs.declared.messages.Entry.{Entry}
 use Rattle.tq_model.specs.declared.calls.EnqueueCall.{EnqueueCall}
 use Rattle.tq_model.specs.declared.calls.DequeueCall.{DequeueCall}
 use Rattle.tq_model.specs.declared.calls.CallAnswer.{CallAnswer}
-use Rattle.tq_model.specs.declared.calls.CallAnswer.TheVariants.{Enqueued, BadQueue, NoMessage, NoSpace}
+use Rattle.tq_model.specs.declared.calls.CallAnswer.TheVariants.{Enqueued, BadQueue, NoSpace}
 use Rattle.tq_model.specs.declared.space.SpaceMove.{SpaceMove}
 use Rattle.tq_model.specs.declared.space.SpaceMove.TheVariants.{Insert, Remove}
 use Rattle.tq_model.specs.Space.{Space, Queue, Item, change_first, is_named, queue_named, is_free, is_past, is_expired, purged, purged_queue, with_item, with_item_in, without, without_item, holds_id, space_without}
-use Rattle.tq_model.specs.Moves.{IndexedQueue, IndexedSpace, the_queue, space_of, has_index, on_queue, item_of, item_inserted, item_removed, moved, moved_by, purged_of}
+use Rattle.tq_model.specs.Moves.{IndexedQueue, IndexedSpace, the_queue, space_of, has_index, on_queue, item_of, item_inserted, item_removed, moved_by, purged_of}
 use Rattle.tq_model.specs.Room.{is_lacking, first_lacking, message_rooms, messages_held, pages_held, pages_at}
 use Rattle.tq_model.specs.EnqueueStep.{CallOutcome, quality, next_id, new_item, enqueue_refusal, enqueue_refusal_at, enqueue_step, enqueued, with_message, unless_refused}
-use Rattle.tq_model.specs.DequeueStep.{can_answer, found_in, delivered, dequeue_answer, taken_from, dequeue_step, dequeue_refusal, refusal_at}
+use Rattle.tq_model.specs.DequeueStep.{found_in, delivered, dequeue_answer, taken_from, dequeue_step, dequeue_refusal, refusal_at}
 use Rattle.tq_space.specs.declared.plans.Plan.{Plan}
 use Rattle.tq_space.specs.Plain.{HasNoExpirations, IsPlainEntry, CanInsert, CanMoveBy}
-use Rattle.tq_space.specs.Applied.{plan_applied}
 use Rattle.tq_space.specs.Planned.{IsPlanOf}
-use Rattle.tq_space.specs.NewEntry.{plain_item}
 use Rattle.tq_space.specs.Reads.{indexed_named, HasDistinctIndices}
 use Rattle.tq_space.specs.Reading.{answer_in}
 use Rattle.tq_space.proofs.Keys.{hit}
@@ -158,7 +156,7 @@ module _ (held : IndexedSpace) (lasting : HasNoExpirations held.queues) (call : 
 
     pub enqueue_planned : (next : Arrival) (distinct : HasDistinctIndices held.queues)
         → first_lacking (message_rooms (space_of held) (space_of held) (pages_at (quality call.qos q.queue.qos) (length call.body))) ≡ None
-        → (e : Entry) → item_of e ≡ plain_item call (quality call.qos q.queue.qos) (next_id (space_of held) next) next → e.queue ≡ q.index → IsPlainEntry e
+        → (e : Entry) → item_of e ≡ new_item (space_of held) q.queue call next → e.queue ≡ q.index → IsPlainEntry e
         → pages_at e.message.qos (length e.message.body) ≡ pages_at (quality call.qos q.queue.qos) (length call.body)
         → (plan : Plan) → plan.purge ≡ [] → plan.moves ≡ Insert e ∷ []
         → plan.answer ≡ Some (Enqueued (if call.want_id then Some (next_id (space_of held) next) else None))

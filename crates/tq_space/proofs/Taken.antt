@@ -1,5 +1,6 @@
 -- Lists that are taken from their end, and values that may be there.
 use Rattle.std.proofs.Common.{◌≡◌, List, [], ◌∷◌, ◌++◌, refl, Option, Some, None, option_map, reverse, ap, ◌∙◌}
+use Rattle.std.specs.Prelude.{is_some}
 use Rattle.std.proofs.lemmas.List.{reverse-append}
 
 pub last_first : {X : Type 0} (xs ys : List X) (x : X) → ys ≡ xs ++ x ∷ [] → reverse ys ≡ x ∷ reverse xs
@@ -12,3 +13,7 @@ none_of f (Some x) h = cc
 pub some_of : {X Y : Type 0} (f : X → Y) (o : Option X) (y : Y) → option_map f o ≡ Some y → (x : X) × (o ≡ Some x) × (f x ≡ y)
 some_of f None y h = cc
 some_of f (Some x) y h = (x, refl, cc)
+
+pub some_mapped : {X Y : Type 0} (f : X → Y) (o : Option X) → is_some (option_map f o) ≡ is_some o
+some_mapped f None = refl
+some_mapped f (Some x) = refl

@@ -1,5 +1,5 @@
 -- A space in memory: its counts are those of its entries.
-use Rattle.std.specs.Prelude.{◌≡◌, ℕ, ◌≤◌}
+use Rattle.std.specs.Prelude.{◌≡◌, ◌≤◌}
 use Rattle.tq_model.specs.Moves.{IndexedSpace, space_of}
 use Rattle.tq_model.specs.Room.{messages_held, pages_held}
 use Rattle.tq_space.specs.declared.space.Space.TheInside.{Inside}

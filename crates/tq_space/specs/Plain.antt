@@ -1,19 +1,15 @@
 -- What calls and moves are restricted to for now.
-use Rattle.std.specs.Prelude.{◌≡◌, ◌≢◌, ℕ, ◌+◌, ◌≤◌, Bool, true, false, List, [], ◌∷◌, length, Option, Some, None}
+use Rattle.std.specs.Prelude.{◌≡◌, ◌≢◌, ℕ, ◌+◌, ◌≤◌, true, false, List, [], ◌∷◌, length, Option, Some, None}
 use Rattle.std.specs.List.{All, list_any, find}
-use Rattle.tq_types.specs.declared.messages.Mark.{Mark}
 use Rattle.tq_types.specs.declared.messages.Mark.TheVariants.{Free}
-use Rattle.tq_types.specs.declared.messages.AskedQos.{AskedQos}
 use Rattle.tq_types.specs.declared.messages.AskedQos.TheVariants.{NonPersistent}
 use Rattle.tq_types.specs.declared.messages.Entry.{Entry}
-use Rattle.tq_model.specs.declared.calls.Place.{Place}
 use Rattle.tq_model.specs.declared.calls.Place.TheVariants.{Plain}
 use Rattle.tq_model.specs.declared.calls.EnqueueAsk.{EnqueueAsk}
 use Rattle.tq_model.specs.declared.calls.DequeueAsk.{DequeueAsk}
 use Rattle.tq_model.specs.declared.space.Change.{Change}
 use Rattle.tq_model.specs.declared.space.SpaceMove.{SpaceMove}
 use Rattle.tq_model.specs.declared.space.SpaceMove.TheVariants.{Insert, Remove, Replace, PutQueue, DropQueue}
-use Rattle.tq_model.specs.Space.{Item}
 use Rattle.tq_model.specs.Moves.{IndexedQueue, IndexedSpace, moved, space_of, has_index}
 use Rattle.tq_model.specs.Room.{messages_held, pages_held, pages_at}
 

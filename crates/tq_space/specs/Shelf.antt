@@ -1,13 +1,9 @@
 -- The queues of a space as keys of entries.
-use Rattle.std.specs.Prelude.{◌≡◌, ℕ, pos, ◌+◌, ◌≤◌, ◌==◌, Bool, true, false, cond, List, [], ◌∷◌, map, length, is_some, Option, Some, None, slice_index_or, vec_len, vec_capacity}
-use Rattle.std.specs.List.{All, count_by, sum_by}
-use Rattle.tq_types.specs.declared.labels.Label.{Label}
-use Rattle.tq_types.specs.declared.messages.Qos.TheVariants as qualities
-use Rattle.tq_types.specs.declared.messages.AskedQos.TheVariants as asked
+use Rattle.std.specs.Prelude.{◌≡◌, ℕ, ◌+◌, ◌≤◌, ◌==◌, List, map, Option, vec_len, vec_capacity}
+use Rattle.std.specs.List.{count_by, sum_by}
 use Rattle.tq_types.specs.declared.messages.Entry.{Entry}
 use Rattle.slab.specs.Slab.{slab_len}
-use Rattle.tq_model.specs.Space.{Item, Letter, Free, Here}
-use Rattle.tq_model.specs.Moves.{IndexedQueue, item_of, queue_of}
+use Rattle.tq_model.specs.Moves.{IndexedQueue, queue_of}
 use Rattle.tq_space.specs.declared.shelf.HeldQueue.{HeldQueue}
 use Rattle.tq_space.specs.declared.shelf.Shelf.TheInside.{Inside}
 use Rattle.tq_space.specs.State.{ShelfValue}

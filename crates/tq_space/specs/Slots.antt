@@ -1,5 +1,5 @@
 -- The entries of a space under their keys.
-use Rattle.std.specs.Prelude.{◌≡◌, ℕ, pos, Bool, true, false, List, [], Option, Some, None, slice_index_or}
+use Rattle.std.specs.Prelude.{ℕ, pos, Bool, false, List, [], Option, Some, None, slice_index_or}
 use Rattle.std.specs.Ordering.{is_lt}
 use Rattle.tq_types.specs.Label.{label_cmp}
 use Rattle.tq_types.specs.OrderValue.{OrderValue}
@@ -7,7 +7,7 @@ use Rattle.tq_types.specs.declared.labels.Label.{Label}
 use Rattle.tq_types.specs.declared.messages.Qos.TheVariants as qualities
 use Rattle.tq_types.specs.declared.messages.AskedQos.TheVariants as asked
 use Rattle.tq_types.specs.declared.messages.Entry.{Entry}
-use Rattle.tq_model.specs.Space.{Item, Letter, Free, Here}
+use Rattle.tq_model.specs.Space.{Item, Free, Here}
 use Rattle.tq_model.specs.Moves.{item_of}
 use Rattle.tq_space.specs.Plain.{IsPlainEntry}
 

@@ -6,8 +6,8 @@ mod plans;
 mod shelf;
 mod space;
 
-pub use plans::{Moves, Plan, Purge, Refusal};
-pub use space::Space;
+pub use plans::{Moves, Plan, Purge, QueueRefusal, Refusal};
+pub use space::{Space, plain_queue, plan_of};
 
 #[cfg(test)]
 mod tests;

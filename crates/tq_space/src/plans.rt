@@ -115,3 +115,15 @@ pub enum Refusal {
     #[error("no memory")]
     NoMemory,
 }
+
+/// Why there is no plan that makes a queue.
+#[derive(Clone, Copy, Debug, PartialEq, Eq, Error)]
+pub enum QueueRefusal {
+    #[error("a queue has that name")]
+    Taken,
+    /// There are as many queues as the space may have.
+    #[error("the space has its {0} queues")]
+    QueueFull(u16),
+    #[error("no memory")]
+    NoMemory,
+}

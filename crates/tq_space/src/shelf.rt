@@ -523,10 +523,38 @@ impl Shelf {
         self.entries.get(key)
     }
 
+    /// Whether there is an entry of that identifier.
+    pub(crate) fn holds_id(&self, id: &MsgId) -> bool
+        ensures { result ≡ list_any (indexed_holds id.now) self.now.queues }
+    {
+        place_holding(&self.queues, &self.entries, id).is_some()
+    }
+
+    /// How many queues there are.
+    pub(crate) fn count(&self) -> usize
+        ensures { result ≡ length self.now.queues }
+    {
+        self.queues.len()
+    }
+
     /// Whether a queue has that index.
     pub(crate) fn holds_index(&self, index: u16) -> bool
         ensures { result ≡ list_any (has_index index) self.now.queues }
     {
         place_indexed(&self.queues, index).is_some()
+    }
+
+    /// The lowest index below the limit that no queue has; none where each of them is used.
+    pub(crate) fn unused_index(&self, limit: u16) -> Option<u16>
+        ensures unused { IfSome result (λ index. (index < limit) × (list_any (has_index index) self.now.queues ≡ false)) }
+        ensures lowest { IfSome result (λ index. (i : ℕ) → i < index → list_any (has_index i) self.now.queues ≡ true) }
+        ensures used { IfNone result ((i : ℕ) → i < limit → list_any (has_index i) self.now.queues ≡ true) }
+    {
+        for index in 0..limit {
+            if !self.holds_index(index) {
+                return Some(index);
+            }
+        }
+        None
     }
 }

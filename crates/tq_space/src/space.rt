@@ -1,27 +1,28 @@
-ghost use Rattle.std.specs.Prelude.{◌≡◌, ℕ, true, false, ◌+◌, ◌-◌, ◌*◌, option_copied, option_to_list, if◌then◌else◌, ◌≤◌, [], ◌∷◌, length, IfOk, OnOk, OnErr, MatchOption, Some, None, option_map};
-ghost use Rattle.tq_model.specs.Space.{new_space, body_length};
+ghost use Rattle.std.specs.Prelude.{◌≡◌, ℕ, true, false, ◌&&◌, nat_lt, nat_le, ◌+◌, ◌-◌, ◌*◌, option_copied, option_to_list, if◌then◌else◌, ◌≤◌, [], ◌∷◌, length, IfOk, OnOk, OnErr, MatchOption, Some, None, option_map};
+ghost use Rattle.tq_model.specs.Space.{body_length};
 ghost use Rattle.tq_model.specs.Moves.{item_of, space_of, purged_of, moved, moved_by, has_index, item_with_id};
 ghost use Rattle.std.specs.List.{find, list_any};
 ghost use Rattle.tq_space.specs.Reads.{indexed_named};
-ghost use Rattle.tq_model.specs.Room.{pages_at, messages_held, pages_held, message_rooms, first_lacking};
+ghost use Rattle.tq_model.specs.Room.{pages_for, pages_at, messages_held, pages_held, message_rooms, first_lacking};
 ghost use Rattle.tq_model.specs.EnqueueStep.{quality, next_id, enqueue_step, enqueue_refusal};
 ghost use Rattle.tq_model.specs.DequeueStep.{dequeue_step, dequeue_refusal, delivered, content_bytes};
-ghost use Rattle.tq_space.specs.Plain.{IsPlainEnqueue, IsPlainDequeue, IsPlainEntry, CanInsert, CanReplace, CanDrop, CanMove, CanMoveBy};
+ghost use Rattle.tq_model.specs.SpaceForm.{plain_queue, holds_arrival, holds_name, empty_space};
+ghost use Rattle.tq_space.specs.Plain.{IsPlainEnqueue, IsPlainDequeue, CanInsert, CanReplace, CanDrop, CanMove, CanMoveBy};
 ghost use Rattle.tq_space.specs.Applied.{plan_applied};
-ghost use Rattle.tq_space.specs.Planned.{MeetsStep, IsRefused};
-ghost use Rattle.tq_space.specs.NewEntry.{plain_item, rooms};
+ghost use Rattle.tq_space.specs.Planned.{MeetsStep, IsRefused, IsInsertOf, IsRemovalOf, MeetsCreation};
+ghost use Rattle.tq_space.specs.NewEntry.{entry_of, rooms};
 
-use crate::plans::{Moves, Plan, Purge, Refusal};
+use crate::plans::{Moves, Plan, Purge, QueueRefusal, Refusal};
 use crate::shelf::Shelf;
 use std::alloc::{AllocError, Global};
 use std::marker::Model;
 use tq_model::{
     CallAnswer, Change, Delivery, DequeueAsk, DequeueCall, EnqueueAsk, QueueDef, Shape, SpaceMove,
-    message_pages, overhead_pages,
+    message_pages, overhead_pages, pages_for,
 };
 use tq_types::{
-    Arrival, AskedQos, Body, Entry, Label, Lack, Mark, Message, MsgId, Name, Path, Qos, Resource,
-    Root,
+    Arrival, AskedQos, Body, Entry, Label, Lack, Last, Mark, Message, MsgId, Name, Order, Path,
+    Qos, Resource, Root,
 };
 
 /// The limits of a space's creation; the pages are those for messages.
@@ -104,11 +105,7 @@ fn first_lack(
 
 /// The entry of an enqueue that is granted.
 fn new_entry(ask: &EnqueueAsk, index: u16, qos: Qos, id: MsgId) -> Result<Entry, AllocError>
-    requires { IsPlainEnqueue ask.now }
-    ensures item { IfOk result (λ e. item_of e ≡ plain_item ask.now.call qos id ask.now.next) }
-    ensures queue { IfOk result (λ e. e.queue ≡ index) }
-    ensures plain { IfOk result IsPlainEntry }
-    ensures pages { IfOk result (λ e. pages_at e.message.qos (length e.message.body) ≡ pages_at qos (length ask.now.call.body)) }
+    ensures { IfOk result (λ e. e ≡ entry_of ask.now index qos id) }
 {
     let call = &ask.call;
     Ok(Entry {
@@ -142,10 +139,14 @@ fn new_entry(ask: &EnqueueAsk, index: u16, qos: Qos, id: MsgId) -> Result<Entry,
 }
 
 /// A plan of one move at most.
-fn plan_of(alloc: Global, item: Option<SpaceMove>, answer: CallAnswer) -> Result<Plan, AllocError>
+pub fn plan_of(
+    alloc: Global,
+    item: Option<SpaceMove>,
+    answer: Option<CallAnswer>,
+) -> Result<Plan, AllocError>
     ensures purge { IfOk result (λ plan. plan.purge ≡ []) }
     ensures moves { IfOk result (λ plan. plan.moves ≡ option_to_list item) }
-    ensures answer { IfOk result (λ plan. plan.answer ≡ Some answer) }
+    ensures answer { IfOk result (λ plan. plan.answer ≡ answer) }
 {
     let mut moves = Moves::new(alloc);
     if let Some(item) = item {
@@ -154,7 +155,7 @@ fn plan_of(alloc: Global, item: Option<SpaceMove>, answer: CallAnswer) -> Result
     Ok(Plan {
         purge: Purge::new(alloc),
         moves,
-        answer: Some(answer),
+        answer,
     })
 }
 
@@ -185,6 +186,24 @@ fn delivery_of(entry: &Entry, call: &DequeueCall) -> Result<Delivery, AllocError
     })
 }
 
+/// The queue of that name, as it is made where nothing more is asked for.
+pub fn plain_queue(name: &Name) -> QueueDef
+    ensures { result ≡ plain_queue name.now }
+{
+    let Ok(order) = Order::new(&[], Last::Fifo) else {
+        unreachable!()
+    };
+    QueueDef {
+        name: *name,
+        order,
+        top: false,
+        before: false,
+        qos: Qos::Persistent,
+        retries: 0,
+        delay: 0,
+    }
+}
+
 /// The pages of an entry.
 fn entry_pages(entry: &Entry) -> u64
     ensures { result ≡ pages_at entry.now.message.qos (length entry.now.message.body) }
@@ -196,7 +215,7 @@ impl Space {
     /// A space without queues and entries, and with no room made; its identifiers have this site and
     /// this number.
     pub fn new(alloc: Global, shape: &Shape, site: u32, number: u32) -> Space
-        ensures space { space_of result.held ≡ new_space shape.now site number }
+        ensures held { result.held ≡ empty_space shape.now site number }
         ensures ready { result.ready ≡ 0 }
     {
         let pages = u64::from(shape.pages).saturating_sub(overhead_pages(shape));
@@ -231,8 +250,8 @@ impl Space {
         )
     }
 
-    /// The identifier of the message to come.
-    fn id_of(&self, next: Arrival) -> MsgId
+    /// The identifier of the message of that arrival.
+    pub fn id_of(&self, next: Arrival) -> MsgId
         ensures { result ≡ next_id (space_of self.now.held) next }
     {
         MsgId {
@@ -254,6 +273,7 @@ impl Space {
         ensures step { MeetsStep result (enqueue_step (space_of self.now.held) ask.now.call ask.now.clock ask.now.next) (enqueue_refusal (space_of self.now.held) ask.now.call ask.now.clock) self.now.held }
         // the condition under which no refusal comes
         ensures granted { enqueue_refusal (space_of self.now.held) ask.now.call ask.now.clock ≡ None → IsRefused result → ⊥ }
+        ensures moves { IfOk result (λ plan. IsInsertOf ask.now self.now.held plan) }
     {
         let Some(queue) = self.shelf.named(&ask.call.queue) else {
             return Err(Refusal::Refused(CallAnswer::BadQueue, Purge::new(alloc)));
@@ -267,7 +287,7 @@ impl Space {
             return Err(Refusal::NoMemory);
         };
         let answer = CallAnswer::Enqueued(asked_id(ask.call.want_id, id));
-        let Ok(plan) = plan_of(alloc, Some(SpaceMove::Insert(entry)), answer) else {
+        let Ok(plan) = plan_of(alloc, Some(SpaceMove::Insert(entry)), Some(answer)) else {
             return Err(Refusal::NoMemory);
         };
         Ok(plan)
@@ -283,6 +303,7 @@ impl Space {
         ensures step { MeetsStep result (dequeue_step (space_of self.now.held) ask.now.call ask.now.clock) (dequeue_refusal (space_of self.now.held) ask.now.call ask.now.clock) self.now.held }
         // the condition under which no refusal comes
         ensures granted { dequeue_refusal (space_of self.now.held) ask.now.call ask.now.clock ≡ None → IsRefused result → ⊥ }
+        ensures moves { IfOk result (λ plan. IsRemovalOf ask.now self.now.held plan) }
     {
         let Some(_queue) = self.shelf.named(&ask.call.queue) else {
             return Err(Refusal::Refused(CallAnswer::BadQueue, Purge::new(alloc)));
@@ -294,8 +315,34 @@ impl Space {
             return Err(Refusal::NoMemory);
         };
         let item = removal(ask.call.peek, entry.message.id);
-        let Ok(plan) = plan_of(alloc, item, CallAnswer::Dequeued(delivery)) else {
+        let Ok(plan) = plan_of(alloc, item, Some(CallAnswer::Dequeued(delivery))) else {
             return Err(Refusal::NoMemory);
+        };
+        Ok(plan)
+    }
+
+    /// A plan that makes a queue of that name, with nothing more asked for, under the lowest index
+    /// that is not used. Nothing is changed.
+    ///
+    /// # Errors
+    /// `Taken` where a queue has the name, else `QueueFull` with the limit where there are as many
+    /// queues.
+    pub fn plan_queue(&self, alloc: Global, name: &Name) -> Result<Plan, QueueRefusal>
+        ensures { MeetsCreation result name.now self.now.held }
+    {
+        if self.has_queue_named(name) {
+            return Err(QueueRefusal::Taken);
+        }
+        let limit = self.limits.queues;
+        if self.shelf.count() >= usize::from(limit) {
+            return Err(QueueRefusal::QueueFull(limit));
+        }
+        let Some(index) = self.shelf.unused_index(limit) else {
+            unreachable!()
+        };
+        let item = SpaceMove::PutQueue(index, plain_queue(name));
+        let Ok(plan) = plan_of(alloc, Some(item), None) else {
+            return Err(QueueRefusal::NoMemory);
         };
         Ok(plan)
     }
@@ -387,8 +434,6 @@ impl Space {
         requires ready { 1 ≤ self.old.ready }
         requires can { CanReplace change.now self.old.held }
         ensures held { self.new.held ≡ moved (SpaceMove.Replace change.now) self.old.held }
-        ensures messages { messages_held (space_of self.new.held) ≡ messages_held (space_of self.old.held) }
-        ensures pages { pages_held (space_of self.new.held) ≡ pages_held (space_of self.old.held) }
         ensures ready { self.old.ready ≤ self.new.ready + 1 }
     {
         self.shelf.replace(change);
@@ -449,6 +494,42 @@ impl Space {
         ensures { result ≡ list_any (has_index index) self.now.held.queues }
     {
         self.shelf.holds_index(index)
+    }
+
+    /// Whether a queue has that name.
+    pub fn has_queue_named(&self, name: &Name) -> bool
+        ensures { result ≡ list_any (holds_name name.now) self.now.held.queues }
+    {
+        self.shelf.named(name).is_some()
+    }
+
+    /// Whether there is an entry of that arrival.
+    pub fn holds_arrival(&self, arrival: &Arrival) -> bool
+        ensures { result ≡ holds_arrival self.now.held arrival.now }
+    {
+        self.shelf.holds_id(&self.id_of(*arrival))
+    }
+
+    /// Whether there is room for one persistent message more, with a body of so many bytes.
+    pub fn has_room_for(&self, body: usize) -> bool
+        ensures { result ≡ (nat_lt (messages_held (space_of self.now.held)) self.now.held.limits.messages && nat_le (pages_held (space_of self.now.held) + pages_for body) self.now.held.limits.pages) }
+    {
+        let pages = u64::from(self.limits.pages) - self.pages;
+        self.messages < u64::from(self.limits.messages) && pages_for(body) <= pages
+    }
+
+    /// The most queues that the space may have.
+    pub fn queue_limit(&self) -> u16
+        ensures { result ≡ self.now.held.limits.queues }
+    {
+        self.limits.queues
+    }
+
+    /// The number of the space in its identifiers.
+    pub fn number(&self) -> u32
+        ensures { result ≡ self.now.held.number }
+    {
+        self.number
     }
 }
 

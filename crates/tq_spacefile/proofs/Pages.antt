@@ -1,6 +1,7 @@
 -- A first page that was spelt is read back, wherever it stands and whatever follows.
-use Rattle.std.proofs.Common.{◌≡◌, ◌<◌, ◌≤◌, ℕ, ◌+◌, ◌^◌, ◌&&◌, Bool, true, List, [], ◌∷◌, ◌++◌, length, get_or, drop, take, Option, Some, None, refl, sym, ap, ◌∙◌, arith, zero-add, length-append}
-use Rattle.std.specs.Prelude.{nat_le, nat_lt, ◌==◌, if◌then◌else◌, codes}
+use Rattle.std.proofs.Common.{◌≡◌, ◌<◌, ◌≤◌, ℕ, ◌+◌, ◌^◌, ◌&&◌, Bool, true, false, List, [], ◌∷◌, ◌++◌, length, get_or, drop, take, Option, Some, None, refl, sym, ap, ◌∙◌, arith, zero-add, length-append}
+use Rattle.std.specs.Prelude.{nat_le, nat_lt, ◌==◌, ◌||◌, if◌then◌else◌, codes}
+use Rattle.std.specs.Str.{bytes_eq}
 use Rattle.std.proofs.lemmas.Bool.{and_parts, leb-true, ne_eqb}
 use Rattle.std.proofs.lemmas.List.{append_assoc, get_or_at, take_all, drop_at}
 use Rattle.tq_field.specs.Digits.{digits, number_of}
@@ -11,9 +12,11 @@ use Rattle.tq_host.specs.Calls.{StandsAt}
 use Rattle.tq_gate.proofs.Stretches.{run_at-is}
 use Rattle.tq_model.specs.declared.space.Shape.{Shape}
 use Rattle.tq_model.specs.Space.{overhead_pages}
-use Rattle.tq_model.specs.SpaceForm.{raw_space, shape_of, error_spelt, page_spelt}
+use Rattle.tq_model.specs.Names.{is_name}
+use Rattle.tq_model.specs.SpaceForm.{RawSpace, raw_space, shape_of, error_spelt, page_spelt}
+use Rattle.tq_model.specs.Reading.{page_tests, hold_all}
 use Rattle.tq_model.proofs.NameTests.{name_from_test}
-use Rattle.tq_spacefile.specs.Page.{IsZeroPadded, numbers_spelt, error_size, error_bytes, raw_of, are_limits, is_error, is_creation, is_space_page, shape_in}
+use Rattle.tq_spacefile.specs.Page.{IsZeroPadded, numbers_spelt, error_size, error_bytes, raw_of, are_limits, is_error, is_creation, shape_at, shape_in}
 use Rattle.tq_spacefile.proofs.Places.{number_behind, run_at-run_at}
 
 -- Only the bytes of a first page tell what it says: the number of its name's bytes is the one before them.
@@ -178,8 +181,39 @@ shape_of-raw_of s within =
     let error = named s.error (and_parts (are_limits s) (is_error s.error) within).1 in
     λ i. record { pages = s.pages; queues = s.queues; messages = s.messages; transactions = s.transactions; memory = s.memory; error = error i }
 
-pub is_space_page-raw_of : (s : Shape) → is_creation s ≡ true → is_space_page s.pages (raw_of s) ≡ true
-is_space_page-raw_of s within = ap is_creation (shape_of-raw_of s within) ∙ within
+-- ---- the tests of a first page
+
+regrouped : (a b q m t w e o : Bool) → (a && (b && (q && (m && (t && (w && (e && (o && true)))))))) ≡ (a && b && ((q && m && t && w && o) && e))
+regrouped false b q m t w e o = refl
+regrouped true false q m t w e o = refl
+regrouped true true false m t w e o = refl
+regrouped true true true false t w e o = refl
+regrouped true true true true false w e o = refl
+regrouped true true true true true false e o = refl
+regrouped true true true true true true false false = refl
+regrouped true true true true true true false true = refl
+regrouped true true true true true true true false = refl
+regrouped true true true true true true true true = refl
+
+is_error-named : (none : Bool) (name : List ℕ) → (none || is_name name) ≡ is_error (if none then None else Some name)
+is_error-named true name = refl
+is_error-named false name = refl
+
+-- the mark and the version, and a creation
+abbrev pub is_first_page : ℕ → RawSpace → Bool
+is_first_page pages r = bytes_eq r.mark (codes "TQSPROV1") && (r.version == 1) && is_creation (shape_of pages r)
+
+pub page_tests_are : (at pages : ℕ) (r : RawSpace) → hold_all (page_tests at pages r) ≡ is_first_page pages r
+page_tests_are at pages r =
+    regrouped (bytes_eq r.mark (codes "TQSPROV1")) (r.version == 1) (nat_le 1 r.queues && nat_le r.queues 256) (nat_le 1 r.messages && nat_le r.messages 8192) (nat_le 1 r.transactions && nat_le r.transactions 64) (nat_le r.memory 16777216)
+    (r.error_size == 0 || is_name r.error) (nat_lt (overhead_pages (shape_of pages r)) pages)
+    ∙ ap (λ (e : Bool). bytes_eq r.mark (codes "TQSPROV1") && (r.version == 1) && (are_limits (shape_of pages r) && e)) (is_error-named (r.error_size == 0) r.error)
+
+pub shape_at_is : (at pages : ℕ) (bytes : List ℕ) → shape_at at pages bytes ≡ (if is_first_page pages (raw_space at bytes) then Some (shape_of pages (raw_space at bytes)) else None)
+shape_at_is at pages bytes = ap (λ (t : Bool). if t then Some (shape_of pages (raw_space at bytes)) else None) (page_tests_are at pages (raw_space at bytes))
+
+is_first_page-raw_of : (s : Shape) → is_creation s ≡ true → is_first_page s.pages (raw_of s) ≡ true
+is_first_page-raw_of s within = ap is_creation (shape_of-raw_of s within) ∙ within
 
 module _ (s : Shape) (within : is_creation s ≡ true) (at : ℕ) (image : List ℕ) (stands : StandsAt at (page_spelt s) image) (long : at + length (page_spelt s) ≤ length image) where
   -- the shape that is read is the one that was spelt
@@ -187,13 +221,20 @@ module _ (s : Shape) (within : is_creation s ≡ true) (at : ℕ) (image : List 
   shape_of-spelt = ap (shape_of s.pages) (raw_space-spelt s within at image stands long) ∙ shape_of-raw_of s within
 
   -- and each test of the page holds
-  pub is_space_page-spelt : is_space_page s.pages (raw_space at image) ≡ true
-  is_space_page-spelt = ap (is_space_page s.pages) (raw_space-spelt s within at image stands long) ∙ is_space_page-raw_of s within
+  pub page_tests-spelt : hold_all (page_tests at s.pages (raw_space at image)) ≡ true
+  page_tests-spelt = page_tests_are at s.pages (raw_space at image) ∙ ap (is_first_page s.pages) (raw_space-spelt s within at image stands long) ∙ is_first_page-raw_of s within
 
 -- a page that begins so is read back
 pub shape_in-spelt : (s : Shape) → is_creation s ≡ true → (page : List ℕ) → IsZeroPadded (page_spelt s) page → length (page_spelt s) ≤ length page → shape_in s.pages page ≡ Some s
 shape_in-spelt s within page begins long =
     let stands : StandsAt 0 (page_spelt s) page = λ i below. ap (λ (k : ℕ). get_or page k 0) (zero-add i) ∙ begins i in
     let reach : 0 + length (page_spelt s) ≤ length page = omega (arith, long) in
-    ap (λ (t : Bool). if t then Some (shape_of s.pages (raw_space 0 page)) else None) (is_space_page-spelt s within 0 page stands reach)
+    ap (λ (t : Bool). if t then Some (shape_of s.pages (raw_space 0 page)) else None) (page_tests-spelt s within 0 page stands reach)
     ∙ ap Some (shape_of-spelt s within 0 page stands reach)
+
+-- a first page that stands on a device is read as it is there
+pub shape_in-stands : (pages at : ℕ) (page image : List ℕ) → StandsAt at page image → length page ≡ 1024 → at + 1024 ≤ length image → get_or page 24 0 < 256 → shape_in pages page ≡ shape_at at pages image
+shape_in-stands pages at page image stands long reach small =
+    let size : get_or image (at + 24) 0 ≡ get_or page 24 0 = stands 24 (omega arith) in
+    let raw : raw_space 0 page ≡ raw_space at image = ap (raw_space 0) (sym (run_at-is at page image (omega arith) stands)) ∙ raw_space-run_at at (length page) image (omega (arith, size)) in
+    ap (λ (r : RawSpace). if hold_all (page_tests at pages r) then Some (shape_of pages r) else None) raw

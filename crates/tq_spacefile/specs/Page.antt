@@ -1,11 +1,11 @@
 -- The first page of a space.
-use Rattle.std.specs.Prelude.{◌≡◌, ℕ, ◌++◌, ◌==◌, ◌&&◌, nat_le, nat_lt, if◌then◌else◌, Bool, true, List, [], length, get_or, codes, Option, Some, None}
-use Rattle.std.specs.Str.{bytes_eq}
+use Rattle.std.specs.Prelude.{◌≡◌, ℕ, ◌++◌, ◌&&◌, nat_le, nat_lt, if◌then◌else◌, Bool, true, List, [], length, get_or, codes, Option, Some, None}
 use Rattle.tq_field.specs.Digits.{digits}
 use Rattle.tq_model.specs.declared.space.Shape.{Shape}
 use Rattle.tq_model.specs.Names.{is_name}
 use Rattle.tq_model.specs.Space.{overhead_pages}
 use Rattle.tq_model.specs.SpaceForm.{RawSpace, raw_space, shape_of}
+use Rattle.tq_model.specs.Reading.{page_tests, hold_all}
 
 -- the bytes are these, and behind them zeros
 abbrev pub IsZeroPadded : List ℕ → List ℕ → Type 0
@@ -50,10 +50,9 @@ is_error (Some name) = is_name name
 abbrev pub is_creation : Shape → Bool
 is_creation s = are_limits s && is_error s.error
 
--- this first page is that of a space with so many pages
-abbrev pub is_space_page : ℕ → RawSpace → Bool
-is_space_page pages r = bytes_eq r.mark (codes "TQSPROV1") && (r.version == 1) && is_creation (shape_of pages r)
+-- the shape of the space with so many pages whose first page begins at this byte, if it is the first page of one
+abbrev pub shape_at : ℕ → ℕ → List ℕ → Option Shape
+shape_at at pages bytes = if hold_all (page_tests at pages (raw_space at bytes)) then Some (shape_of pages (raw_space at bytes)) else None
 
--- the shape of the space with so many pages whose first page these bytes begin with, if they do
 abbrev pub shape_in : ℕ → List ℕ → Option Shape
-shape_in pages page = if is_space_page pages (raw_space 0 page) then Some (shape_of pages (raw_space 0 page)) else None
+shape_in pages page = shape_at 0 pages page

@@ -1,4 +1,4 @@
-ghost use Rattle.std.specs.Prelude.{◌≡◌, ◌≤◌, ℕ, ◌++◌, ◌==◌, ◌&&◌, List, [], length, codes, IsTrue, if◌then◌else◌, Some, None};
+ghost use Rattle.std.specs.Prelude.{◌≡◌, ◌<◌, ◌≤◌, slice_index, ℕ, ◌++◌, ◌==◌, ◌&&◌, List, [], true, length, codes, IsTrue, if◌then◌else◌, Some, None};
 ghost use Rattle.std.specs.Str.{bytes_eq};
 ghost use Rattle.tq_model.specs.SpaceForm as form;
 ghost use Rattle.tq_model.specs.SpaceForm.{raw_space, page_spelt};
@@ -19,6 +19,7 @@ const VERSION: u16 = 1;
 /// zero.
 pub fn encode_page(shape: &Shape) -> [u8; NEW_BYTES]
     ensures spelt { IsZeroPadded (page_spelt shape.now) result }
+    ensures error { is_error shape.now.error ≡ true }
     // `decode_page` gives the shape back
     ensures back { IsTrue (is_creation shape.now) → shape_in shape.now.pages result ≡ Some shape.now }
 {
@@ -42,7 +43,8 @@ fn spell_numbers(page: &mut [u8], shape: &Shape)
 
 fn spell_error(page: &mut [u8], error: &Option<Name>)
     requires { 40 ≤ length page.old }
-    ensures { (start : List ℕ) → length start ≡ 24 → IsZeroPadded start page.old → IsZeroPadded (start ++ form.error_spelt error.now) page.new }
+    ensures spelt { (start : List ℕ) → length start ≡ 24 → IsZeroPadded start page.old → IsZeroPadded (start ++ form.error_spelt error.now) page.new }
+    ensures error { is_error error.now ≡ true }
 {
     if let Some(name) = error {
         let name = name.as_bytes();
@@ -55,8 +57,10 @@ fn spell_error(page: &mut [u8], error: &Option<Name>)
 /// the first page of none.
 pub fn decode_page(page: &[u8], pages: u32) -> Option<Shape>
     requires { 1024 ≤ length page.now }
-    ensures { result ≡ shape_in pages page.now }
+    ensures shape { result ≡ shape_in pages page.now }
+    ensures size { slice_index page.now 24 < 256 }
 {
+    let size = usize::from(page[24]);
     if !is_marked(page) {
         return None;
     }
@@ -66,7 +70,7 @@ pub fn decode_page(page: &[u8], pages: u32) -> Option<Shape>
         messages: u16_at(page, 12),
         transactions: u16_at(page, 14),
         memory: u64_at(page, 16),
-        error: error_in(page)?,
+        error: error_in(page, size)?,
     };
     are_limits(&shape).then_some(shape)
 }
@@ -79,12 +83,14 @@ fn is_marked(page: &[u8]) -> bool
     &page[..8] == MARK.as_slice() && u16_at(page, 8) == VERSION
 }
 
-/// The name of the error queue, if there is one; the outer `None` where it is no name.
-fn error_in(page: &[u8]) -> Option<Option<Name>>
-    requires { 1024 ≤ length page.now }
+/// The name of the error queue, which has so many bytes, if there is one; the outer `None` where it
+/// is no name.
+fn error_in(page: &[u8], size: usize) -> Option<Option<Name>>
+    requires page { 1024 ≤ length page.now }
+    requires size { size ≡ slice_index page.now 24 }
+    requires small { size < 256 }
     ensures { result ≡ (if is_error (form.error_name (raw_space 0 page.now)) then Some (form.error_name (raw_space 0 page.now)) else None) }
 {
-    let size = page[24] as usize;
     if size == 0 {
         return Some(None);
     }

@@ -47,7 +47,7 @@ fn push_arrival(bytes: &mut Vec<u8>, arrival: Arrival) -> Result<(), AllocError>
     Ok(())
 }
 
-fn spell_added(
+pub(crate) fn spell_added(
     alloc: Global,
     queue: u16,
     arrival: Arrival,
@@ -63,7 +63,7 @@ fn spell_added(
     Ok(bytes)
 }
 
-fn spell_gone(alloc: Global, arrival: Arrival) -> Result<Vec<u8>, AllocError>
+pub(crate) fn spell_gone(alloc: Global, arrival: Arrival) -> Result<Vec<u8>, AllocError>
     ensures spelt { IfOk result (λ v. v.items ≡ spelt (Gone arrival)) }
     ensures back { IfOk result (λ v. record_in v.items ≡ Some (Gone arrival)) }
 {
@@ -72,7 +72,7 @@ fn spell_gone(alloc: Global, arrival: Arrival) -> Result<Vec<u8>, AllocError>
     Ok(bytes)
 }
 
-fn spell_queue(alloc: Global, index: u16, name: &Name) -> Result<Vec<u8>, AllocError>
+pub(crate) fn spell_queue(alloc: Global, index: u16, name: &Name) -> Result<Vec<u8>, AllocError>
     ensures spelt { IfOk result (λ v. v.items ≡ spelt (QueueMade index name.now)) }
     ensures back { IfOk result (λ v. record_in v.items ≡ Some (QueueMade index name.now)) }
 {

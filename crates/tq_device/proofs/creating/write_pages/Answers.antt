@@ -1,4 +1,4 @@
-use Rattle.std.proofs.Common.{◌∙◌}
+use Rattle.std.proofs.Common.{◌∙◌, length}
 use Rattle.tq_host.proofs.Resting.{rest_on}
 use Rattle.tq_host.proofs.Within.{in_a_row}
 use Rattle.tq_device.specs.Content.{IsAnyStep}
@@ -16,8 +16,8 @@ loop-number-preserved g c =
     let inv = c.loop-number.invariant in
     let page = c.in_ok-write_page.ensures in
     record {
-      made = λ t. made_more _ _ _ c.page_start.result.now _ _ c.loop-number.number (inv.made t) c.page_start.ensures.bytes (page.done t);
-      size = λ t. (page.done t).size ∙ inv.size t;
+      made = λ t. made_more c.args.header.now c.args.table.now c.args.journal.now c.page_start.result.now ((g.H.Host.view c.loop-number.host).reads c.args.dev) ((g.H.Host.view c.write_page.new.host).reads c.args.dev) c.loop-number.number (inv.made t) c.page_start.ensures.bytes (page.done t);
+      size = λ t. ◌∙◌ {b = length ((g.H.Host.view c.loop-number.host).reads c.args.dev)} (page.done t).size (inv.size t);
       stop = λ short.
           let so_far = inv.stop short in
           in_a_row c.args.dev IsAnyStep any_steps IsShort _ _ _ so_far (c.write_page.ensures.stop (λ d may. (so_far.own d may).now));

@@ -1,8 +1,7 @@
-use Rattle.std.proofs.Common.{◌∙◌, sym, subst, List, ℕ, get_or, arith}
+use Rattle.std.proofs.Common.{◌∙◌, subst, List, ℕ, get_or, arith}
 use Rattle.tq_host.specs.Calls.{StandsAt}
 use Rattle.tq_model.specs.Reading.{chosen, table_a, table_b, journal_a, journal_b}
-use Rattle.tq_device.proofs.Parts.{reading_from, found_is}
-use Rattle.tq_device.specs.Parts.{HasJournal}
+use Rattle.tq_device.proofs.Reading.{found_is}
 use Rattle.tq_device.proofs.loading.load_parts.Goals as goal
 
 pub returns-clause-found : goal.returns-clause-found
@@ -20,6 +19,4 @@ returns-clause-found g c = λ t.
     let stands_j : StandsAt (chosen (get_or header 513 0) journal_a journal_b) journal image =
     subst (λ (b : List ℕ). StandsAt (chosen (get_or header 513 0) journal_a journal_b) journal b) same_2
     (subst (λ at. StandsAt at journal ((g.H.Host.view c.read_at-2.new.self).reads c.args.dev)) c.chosen-2.ensures (c.in_ok-read_at-3.ensures.bytes t)) in
-    let is = reading_from header table journal image (omega arith) (omega arith) (omega arith) (c.requires.long t) stands_h stands_t stands_j in
-    found_is c.judge.result image (c.judge.ensures.reading ∙ sym is)
-    (subst (λ n. HasJournal n c.judge.result) (sym (stands_h 513 (omega arith))) c.judge.ensures.selector)
+    found_is c.args.size header table journal image (omega arith) (omega arith) (omega arith) c.requires.long (c.requires.size t) stands_h stands_t stands_j (omega (arith, c.judge.ensures.name_size)) c.judge.result c.judge.ensures.judged c.judge.ensures.selectors

@@ -1,38 +1,24 @@
-use Rattle.std.proofs.Common.{sym, subst, length, arith}
+use Rattle.std.proofs.Common.{length, arith}
 use Rattle.tq_host.specs.Calls.{IsTorn}
-use Rattle.tq_host.proofs.Within.{starts, still, changes}
 use Rattle.tq_device.specs.Content.{Stands, IsSameButJournal}
-use Rattle.tq_device.specs.Raised.{IsFilled}
-use Rattle.tq_device.proofs.Making.{at_ok}
-use Rattle.tq_device.proofs.NextEpoch.{journal_steps, filled_torn, filled_written}
+use Rattle.tq_device.proofs.NextEpoch.{filled_torn, filled_written}
+use Rattle.tq_device.proofs.Pieces.{refined}
 use Rattle.tq_device.proofs.raising.fill.Goals as goal
 
-pub returns-in_err-write_at-clause-stop : goal.returns-in_err-write_at-clause-stop
-returns-in_err-write_at-clause-stop g c = λ stand.
+pub returns-in_err-write_synced-clause-stop : goal.returns-in_err-write_synced-clause-stop
+returns-in_err-write_synced-clause-stop g c = λ stand.
     let d = c.args.content.now in
-    let old = g.H.Host.view c.args.host.now in
-    changes c.args.dev IsSameButJournal journal_steps (Stands d) (Stands d) old old _ c.write_at.result (IsTorn c.other.result (length c.padded-base.result))
-    (starts c.args.dev IsSameButJournal journal_steps (Stands d) old stand) c.write_at.ensures.call c.write_at.ensures.change
-    (λ a b is torn. filled_torn d c.other.result (length c.padded-base.result) a b c.other.ensures (omega arith) is torn) (λ a is. is)
+    let n = length c.padded-base.result in
+    refined c.args.dev (IsTorn c.other.result n) IsSameButJournal (Stands d) (Stands d) (g.H.Host.view c.args.host.now) _ stand (λ a b is torn. filled_torn d c.other.result n a b c.other.ensures (omega arith) is torn) c.write_synced.ensures.stop
 
 pub returns-clause-stop : goal.returns-clause-stop
 returns-clause-stop g c = λ stand.
     let d = c.args.content.now in
-    let old = g.H.Host.view c.args.host.now in
-    let first = changes c.args.dev IsSameButJournal journal_steps (Stands d) (Stands d) old old _ c.write_at.result (IsTorn c.other.result (length c.padded-base.result))
-    (starts c.args.dev IsSameButJournal journal_steps (Stands d) old stand) c.write_at.ensures.call c.write_at.ensures.change
-    (λ a b is torn. filled_torn d c.other.result (length c.padded-base.result) a b c.other.ensures (omega arith) is torn) (λ a is. is) in
-    still c.args.dev IsSameButJournal journal_steps (Stands d) old _ _ c.sync.result first c.sync.ensures.call c.sync.ensures.still
+    let n = length c.padded-base.result in
+    refined c.args.dev (IsTorn c.other.result n) IsSameButJournal (Stands d) (Stands d) (g.H.Host.view c.args.host.now) _ stand (λ a b is torn. filled_torn d c.other.result n a b c.other.ensures (omega arith) is torn) c.write_synced.ensures.stop
 
 pub returns-clause-done : goal.returns-clause-done
-returns-clause-done g c = at_ok c.sync.result (λ t.
-    let read = filled_written c.args.content.now c.other.result c.base_start.result c.padded-base.result ((g.H.Host.view c.args.host.now).reads c.args.dev) ((g.H.Host.view c.write_at.new.self).reads c.args.dev) c.other.ensures (omega arith)
-    c.base_start.ensures.mark c.base_start.ensures.number (omega arith) c.padded-base.ensures (c.requires.holds t) (c.in_ok-write_at.ensures.written t) in
-    subst (IsFilled c.args.content.now) (sym (c.sync.ensures.still.reads c.args.dev)) read.0)
+returns-clause-done g c = λ t. (filled_written c.args.content.now c.other.result c.base_start.result c.padded-base.result _ _ c.other.ensures (omega arith) c.base_start.ensures.mark c.base_start.ensures.number (omega arith) c.padded-base.ensures (c.requires.holds t) (c.in_ok-write_synced.ensures.done t)).1
 
 pub returns-clause-kept : goal.returns-clause-kept
-returns-clause-kept g c = at_ok c.sync.result (λ t.
-    let old = (g.H.Host.view c.args.host.now).reads c.args.dev in
-    let read = filled_written c.args.content.now c.other.result c.base_start.result c.padded-base.result old ((g.H.Host.view c.write_at.new.self).reads c.args.dev) c.other.ensures (omega arith)
-    c.base_start.ensures.mark c.base_start.ensures.number (omega arith) c.padded-base.ensures (c.requires.holds t) (c.in_ok-write_at.ensures.written t) in
-    subst (IsSameButJournal old) (sym (c.sync.ensures.still.reads c.args.dev)) read.1)
+returns-clause-kept g c = λ t. (filled_written c.args.content.now c.other.result c.base_start.result c.padded-base.result _ _ c.other.ensures (omega arith) c.base_start.ensures.mark c.base_start.ensures.number (omega arith) c.padded-base.ensures (c.requires.holds t) (c.in_ok-write_synced.ensures.done t)).0

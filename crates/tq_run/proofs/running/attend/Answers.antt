@@ -1,4 +1,4 @@
-use Rattle.std.proofs.Common.{◌≡◌, ◌∙◌, List, ℕ, sym, ap, subst, rules, Result, Some}
+use Rattle.std.proofs.Common.{◌≡◌, ◌∙◌, List, ℕ, sym, ap, subst, rules, Result, Err, Some}
 use Rattle.tq_host.specs.Calls.{IsGiving}
 use Rattle.tq_host.specs.Within.{Ran}
 use Rattle.tq_model.specs.Grammar.{script_requests}
@@ -17,7 +17,9 @@ use Rattle.tq_run.specs.Stops.{AreOn, IsStopped}
 use Rattle.tq_run.proofs.Booting.{attaching, booting, answering, running}
 use Rattle.tq_run.proofs.CountLemmas.{on_ok, of_ok}
 use Rattle.tq_run.proofs.Lines.{some_more, none_given}
-use Rattle.tq_run.proofs.Attending.{is_serial, was_bootable, from_before}
+use Rattle.tq_run.proofs.Attending.{is_serial, same_found, was_bootable, from_before}
+use Rattle.tq_run.specs.Manager.{is_bootable}
+use Rattle.tq_run.specs.declared.status.Stop.TheVariants.{Damaged}
 use Rattle.tq_run.proofs.running.attend.Goals as goal
 
 pub returns-in_err-manager-clause-some : goal.returns-in_err-manager-clause-some
@@ -47,7 +49,7 @@ returns-clause-done g c =
     (of_ok r x _ ok c.answer_script.ensures.gave t.script t.output) served.device found is)
 
 pub returns-clause-bootable : goal.returns-clause-bootable
-returns-clause-bootable g c = λ damaged device t.
+returns-clause-bootable g c = λ damaged device memory t.
     was_bootable c.in_ok-manager.manager (g.H.Host.view c.args.host.now) (g.H.Host.view c.attach.new.self) (g.H.Host.view c.boot.new.host) (c.attach.ensures.still.reads 0) (c.in_ok-manager.ensures.booted t)
 
 pub returns-clause-some : goal.returns-clause-some
@@ -102,3 +104,25 @@ returns-clause-stop g c = λ t settled found is raisable.
     (subst (λ (ans : Answer). Ran (IsGiving (line_text 0 ans) d e) d e) c.readiness.ensures c.give_answer.ensures.gives) f
     (subst (λ (ans : Answer). GivesText (line_text 0 ans) d e) c.readiness.ensures (c.in_ok-give_answer.ensures.gave t.output)) (c.answer_script.ensures.some t.output)
     (subst (λ (l : List ℕ). Ran (IsStopped (site_of m) 1 (script_requests l) e f) e f) script (c.answer_script.ensures.stop t.reads t.script t.output (λ i may. on i (c.give_answer.ensures.images 0 i may))))
+
+pub returns-in_err-manager-clause-damaged : goal.returns-in_err-manager-clause-damaged
+returns-in_err-manager-clause-damaged g c = λ e t.
+    let a = (g.H.Host.view c.args.host.now).reads in
+    let b = (g.H.Host.view c.attach.new.self).reads in
+    let failed : c.boot.result ≡ Err Damaged = search rules in
+    ap is_bootable (sym (same_found b a (c.attach.ensures.still.reads 0))) ∙ c.boot.ensures.damaged failed t
+
+pub returns-in_err-give_answer-clause-bootable : goal.returns-in_err-give_answer-clause-bootable
+returns-in_err-give_answer-clause-bootable g c = λ damaged device memory t.
+    was_bootable c.in_ok-manager.manager (g.H.Host.view c.args.host.now) (g.H.Host.view c.attach.new.self) (g.H.Host.view c.boot.new.host) (c.attach.ensures.still.reads 0) (c.in_ok-manager.ensures.booted t)
+
+pub returns-in_err-give_answer-clause-some : goal.returns-in_err-give_answer-clause-some
+returns-in_err-give_answer-clause-some g c = λ t.
+    let a = g.H.Host.view c.args.host.now in
+    let b = g.H.Host.view c.attach.new.self in
+    let d = g.H.Host.view c.boot.new.host in
+    let e = g.H.Host.view c.give_answer.new.host in
+    let attached : b.faults ≡ a.faults = search rules in
+    let quiet : IsQuiet b d = c.in_ok-manager.ensures.counts in
+    let some = c.give_answer.ensures.some t in
+    (some.0, from_before some.0 a d e (c.boot.ensures.rest.streams ∙ c.attach.ensures.call.streams) (quiet.device ∙ attached) some.1)

@@ -1,4 +1,4 @@
-use Rattle.std.proofs.Common.{◌≡◌, ◌<◌, ◌∙◌, subst, sym, refl, arith, Some, OnOk, ◌∷◌}
+use Rattle.std.proofs.Common.{◌≡◌, ◌⊎◌, ◌<◌, ◌∙◌, subst, sym, refl, arith, Some, OnOk, ◌∷◌}
 use Rattle.tq_host.specs.View.{TellsAll}
 use Rattle.tq_host.specs.Calls.{HasCauseOf}
 use Rattle.tq_model.specs.Site.{Site}
@@ -25,7 +25,7 @@ returns-in-None-clause-line_0 g c = λ t.
 
 pub returns-in-Some-clause-damaged_always : goal.returns-in-Some-clause-damaged_always
 returns-in-Some-clause-damaged_always g c = λ usage t none calm.
-    c.status_of.ensures ∙ damaged_always c.attend.result (g.H.Host.view c.args.host.now) (g.H.Host.view c.attend.new.host) g.H.Host.tells.reads c.attend.ensures.bootable c.attend.ensures.counts t none calm
+    subst (λ (s : Status). (s ≡ status.Damaged 0) ⊎ (s ≡ status.NoMemory)) (sym c.status_of.ensures) (damaged_always c.attend.result (g.H.Host.view c.args.host.now) (g.H.Host.view c.attend.new.host) g.H.Host.tells.reads c.attend.ensures.bootable c.attend.ensures.counts t none calm)
 
 pub returns-in-Some-clause-read_fault : goal.returns-in-Some-clause-read_fault
 returns-in-Some-clause-read_fault g c =

@@ -8,6 +8,7 @@ pub loop-left-init : goal.loop-left-init
 loop-left-init g c = record {
   bytes = search rules;
   taken = search rules;
+  short = search rules;
   still = search rules;
   waits = ran_start (IsWaiting (g.H.Host.view c.args.host.now)) (g.H.Host.view c.args.host.now);
   images = λ d image may. may;
@@ -22,6 +23,7 @@ loop-left-preserved g c =
     record {
       bytes = search rules;
       taken = search rules;
+      short = search rules;
       still = search rules;
       waits = waits_on a b d c.loop-left.invariant.waits c.loop-left.invariant.images c.loop-left.invariant.still.output c.take_some.ensures.waits;
       images = no_new_on a b d c.loop-left.invariant.images c.take_some.ensures.images;

@@ -1,4 +1,4 @@
-use Rattle.std.proofs.Common.{◌≡◌, ℕ, ◌+◌, List, ◌++◌}
+use Rattle.std.proofs.Common.{◌≡◌, ℕ, ◌+◌, List, ◌++◌, length}
 use Rattle.tq_host.specs.Within.{Ran}
 use Rattle.tq_run.specs.Counts.{IsQuiet}
 use Rattle.tq_run.specs.Stops.{HasNoNewImage, IsWaiting}
@@ -12,6 +12,7 @@ invariant-loop-left g l =
     record {
       bytes : g.H.Host.tells.script → l.script.items ++ now.streams.script ≡ start.streams.script;
       taken : g.H.Host.tells.output → now.streams.taken + l.left ≡ start.streams.taken + l.fn.limit;
+      short : length l.script.items + l.left ≡ l.fn.limit;
       still : TakesOnly start now;
       waits : Ran (IsWaiting start) start now;
       images : HasNoNewImage start now;

@@ -1,4 +1,5 @@
 use Rattle.std.proofs.Common.{◌≡◌, ◌∙◌, List, ℕ, sym, ap, subst, rules}
+use Rattle.std.proofs.lemmas.Result.{IfErr-weaker}
 use Rattle.tq_host.specs.Within.{Within, Ran}
 use Rattle.tq_host.specs.Calls.{IsGiving}
 use Rattle.tq_model.specs.declared.answer.Answer.{Answer}
@@ -24,7 +25,7 @@ returns-in_err-answer-clause-stop g c = λ t o on more.
     let s = site_of c.args.manager.now in
     let is : c.in_ok-request.request ≡ line_request c.args.line.now = search rules in
     first_device s c.args.number (line_request c.args.line.now) more a b c.serve.ensures.rest.streams
-    (subst (λ (q : Request). Within 0 IsAnyStep (IsEither s (step s q).site) a b) is (c.serve.ensures.stop on))
+    (subst (λ (q : Request). Within 0 IsAnyStep (IsEither s (step s q).site) a b) is (c.serve.ensures.stop t on))
 
 pub returns-clause-holds : goal.returns-clause-holds
 returns-clause-holds g c =
@@ -57,7 +58,7 @@ returns-clause-stop g c = λ t o on more.
     let is : c.in_ok-request.request ≡ line_request c.args.line.now = search rules in
     let said : c.in_ok-answer.answer ≡ (step s (line_request c.args.line.now)).answer = c.in_ok-answer.ensures.answer ∙ ap (λ (q : Request). (step s q).answer) is in
     one_line s n (line_request c.args.line.now) more c.serve.new.manager a b d c.serve.ensures.rest.streams
-    (subst (λ (q : Request). Within 0 IsAnyStep (IsEither s (step s q).site) a b) is (c.serve.ensures.stop on))
+    (subst (λ (q : Request). Within 0 IsAnyStep (IsEither s (step s q).site) a b) is (c.serve.ensures.stop t on))
     (c.in_ok-answer.ensures.site ∙ ap (λ (q : Request). (step s q).site) is) (c.in_ok-answer.ensures.images t on) c.give_answer.ensures.images (c.give_answer.ensures.some o)
     (subst (λ (ans : Answer). Ran (IsGiving (line_text n ans) b d) b d) said c.give_answer.ensures.gives)
 
@@ -66,3 +67,6 @@ returns-clause-images g c =
     let a = g.H.Host.view c.args.host.now in
     let d = g.H.Host.view c.give_answer.new.host in
     on_ok c.give_answer.result (g.H.Host.tells.reads → AreOn c.args.manager.now a → AreOn c.serve.new.manager d) (λ x ok. λ t on. λ image may. c.in_ok-answer.ensures.images t on image (c.give_answer.ensures.images 0 image may))
+
+pub returns-clause-three : goal.returns-clause-three
+returns-clause-three g c = IfErr-weaker c.give_answer.result _ _ (λ e two. λ memory device. two memory) c.give_answer.ensures.two

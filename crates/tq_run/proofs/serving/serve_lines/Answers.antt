@@ -33,6 +33,8 @@ loop-line-preserved g c =
     let next = lines_text (n + 1) (step s (line_request line)).site (script_requests behind) in
     record {
       count = omega (arith, inv.count, shorter);
+      fit = c.in_ok-serve_line.ensures.fit;
+      numbers = omega (arith, inv.numbers, shorter, c.in_ok-serve_line.ensures.next);
       holds = c.in_ok-serve_line.ensures.holds;
       site = ap (λ (x : Site). site_after x (script_requests behind)) stepped ∙ sym (site_first s rest line behind cut) ∙ inv.site;
       gave = λ t.
@@ -58,7 +60,9 @@ loop-line-init g c =
     let m = c.args.manager.now in
     record {
       count = omega arith;
-      holds = c.requires;
+      fit = c.requires.fit;
+      numbers = c.requires.numbers;
+      holds = c.requires.holds;
       site = refl;
       gave = λ t. gave_first (lines_text 1 (site_of m) all) start;
       input = search rules;

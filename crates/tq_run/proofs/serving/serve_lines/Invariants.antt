@@ -1,7 +1,7 @@
 use Rattle.std.proofs.Common.{◌≡◌, ◌≤◌, ℕ, ◌+◌, List, ◌++◌, length}
 use Rattle.tq_model.specs.Grammar.{script_requests}
 use Rattle.tq_run.specs.Counts.{IsQuiet}
-use Rattle.tq_run.specs.Manager.{site_of, IsOn}
+use Rattle.tq_run.specs.Manager.{site_of, IsOn, IsFit}
 use Rattle.tq_run.specs.Serial.{site_after, lines_text}
 use Rattle.tq_run.specs.Output.{GivesSome, KeepsInput}
 use Rattle.tq_run.specs.Stops.{AreOn}
@@ -15,6 +15,8 @@ invariant-loop-line g l =
     let now = g.H.Host.view l.host in
     record {
       count : l.number + length l.rest ≤ length l.script + 1;
+      fit : IsFit l.manager;
+      numbers : l.manager.next + length l.rest ≤ 4294967295;
       holds : g.H.Host.tells.reads → IsOn l.manager (now.reads 0);
       site : site_after (site_of l.manager) (script_requests l.rest) ≡ site_after (site_of l.fn.manager) (script_requests l.script);
       gave : g.H.Host.tells.output → GaveSoFar (lines_text 1 (site_of l.fn.manager) (script_requests l.script)) (lines_text l.number (site_of l.manager) (script_requests l.rest)) start now;

@@ -1,6 +1,6 @@
-use Rattle.std.proofs.Common.{◌≡◌, ℕ, ◌+◌, ◌≤◌, List, ◌++◌, [], ◌∷◌, sym, subst, arith, vec_len, vec_capacity}
+use Rattle.std.proofs.Common.{◌≡◌, ◌++◌, [], ◌∷◌, sym, subst, arith}
 use Rattle.std.specs.List.{All}
-use Rattle.tq_space.specs.Spare.{IsSpare, HasSpare}
+use Rattle.tq_space.specs.Spare.{IsSpare}
 use Rattle.tq_space.proofs.Spares.{spare_less, spares_same, spares_more, all_more}
 use Rattle.tq_space.proofs.shelf.add_spare.Goals as goal
 

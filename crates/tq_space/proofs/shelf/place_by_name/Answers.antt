@@ -1,4 +1,4 @@
-use Rattle.std.proofs.Common.{◌≡◌, ◌∙◌, ap, ℕ, Option, length, unwrap_or}
+use Rattle.std.proofs.Common.{◌∙◌, ap, ℕ, Option, length, unwrap_or}
 use Rattle.tq_model.specs.Space.{name_before}
 use Rattle.tq_space.specs.declared.shelf.HeldQueue.{HeldQueue}
 use Rattle.tq_space.proofs.Places.{position-or}

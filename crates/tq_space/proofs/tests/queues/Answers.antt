@@ -1,20 +1,14 @@
-use Rattle.std.proofs.Common.{◌≡◌, ℕ, ◌+◌, ◌-◌, ◌≤◌, ◌==◌, ◌||◌, Bool, true, false, List, [], ◌∷◌, map, length, refl, sym, ap, ◌∙◌, subst, arith, eq-eqb}
-use Rattle.std.specs.List.{list_any}
+use Rattle.std.proofs.Common.{◌≡◌, ℕ, ◌≤◌, ◌||◌, Bool, false, List, [], ◌∷◌, length, sym, ap, ◌∙◌, subst, arith, eq-eqb}
 use Rattle.tq_types.specs.declared.messages.Entry.{Entry}
 use Rattle.tq_model.specs.declared.space.QueueDef.{QueueDef}
-use Rattle.tq_model.specs.declared.space.Shape.{Shape}
 use Rattle.tq_types.specs.declared.identifiers.MsgId.{MsgId}
 use Rattle.tq_model.specs.declared.space.SpaceMove.{SpaceMove}
 use Rattle.tq_model.specs.declared.space.SpaceMove.TheVariants.{PutQueue, Insert}
-use Rattle.tq_model.specs.Space.{Space, Queue, new_space}
-use Rattle.tq_model.specs.Moves.{IndexedQueue, IndexedSpace, the_queue, space_of, has_index, purged_of}
+use Rattle.tq_model.specs.Moves.{IndexedQueue, IndexedSpace, purged_of}
 use Rattle.tq_model.specs.Room.{pages_at}
-use Rattle.tq_space.specs.Plain.{IsPlainEntry, CanInsert, CanMoveBy}
+use Rattle.tq_model.specs.SpaceForm.{empty_space}
+use Rattle.tq_space.specs.Plain.{IsPlainEntry, CanMoveBy}
 use Rattle.tq_space.proofs.tests.queues.Goals as goal
-
-none_there : (qs : List IndexedQueue) → map the_queue qs ≡ [] → qs ≡ []
-none_there [] h = refl
-none_there (q ∷ qs) h = cc
 
 -- a queue and its first entry, in a space without queues
 first_moves : (s : IndexedSpace) (index : ℕ) (d : QueueDef) (e : Entry) → s.queues ≡ [] → 1 ≤ s.limits.messages → IsPlainEntry e → e.queue ≡ index
@@ -37,9 +31,9 @@ first_moves s index d e none limit plain at pages =
 pub apply-requires-clause-can : goal.apply-requires-clause-can
 apply-requires-clause-can g c =
     let space = c.new-space.result in
-    let is_new : space_of space.held ≡ new_space c.shape.result 1 8 = c.new-space.ensures.space in
-    let none : space.held.queues ≡ [] = none_there space.held.queues (ap (λ (s : Space). s.queues) is_new) in
-    let limit : space.held.limits.messages ≡ 2 = ap (λ (s : Space). s.limits.messages) is_new ∙ c.shape.ensures in
+    let is_new : space.held ≡ empty_space c.shape.result 1 8 = c.new-space.ensures.held in
+    let none : space.held.queues ≡ [] = ap (λ (s : IndexedSpace). s.queues) is_new in
+    let limit : space.held.limits.messages ≡ 2 = ap (λ (s : IndexedSpace). s.limits.messages) is_new ∙ c.shape.ensures in
     let moves = PutQueue 3 c.definition.result ∷ Insert c.in_ok-first.first ∷ [] in
     let here : CanMoveBy moves space.held =
     first_moves space.held 3 c.definition.result c.in_ok-first.first none (omega arith) c.in_ok-first.ensures.plain c.in_ok-first.ensures.queue c.in_ok-first.ensures.pages in

@@ -1,12 +1,13 @@
 use Rattle.std.proofs.Common.{◌≡◌, ℕ, List, [], ◌∷◌, ◌++◌, Option, length, sym, ap, ◌∙◌, subst, arith, length-append}
 use Rattle.std.proofs.lemmas.List.{append_assoc}
 use Rattle.tq_model.specs.SpaceForm.{error_spelt}
-use Rattle.tq_spacefile.specs.Page.{IsZeroPadded}
+use Rattle.tq_model.proofs.NameTests.{is_name-name}
+use Rattle.tq_spacefile.specs.Page.{IsZeroPadded, is_error}
 use Rattle.tq_spacefile.proofs.Places.{put_spelt}
 use Rattle.tq_spacefile.proofs.page.spell_error.Goals as goal
 
-pub returns-in-Some : goal.returns-in-Some
-returns-in-Some c = λ start long begins.
+pub returns-in-Some-clause-spelt : goal.returns-in-Some-clause-spelt
+returns-in-Some-clause-spelt c = λ start long begins.
     let name = c.in-Some.name in
     let run = c.as_bytes-name.result.now in
     let is = c.as_bytes-name.ensures.bytes in
@@ -17,3 +18,6 @@ returns-in-Some c = λ start long begins.
     let regrouped : size ++ name ≡ start ++ error_spelt c.args.error.now =
     append_assoc start (length name ∷ []) name ∙ ap (λ (e : Option (List ℕ)). start ++ error_spelt e) (sym c.in-Some.is) in
     subst (λ (l : List ℕ). IsZeroPadded l c.put_behind-in-Some.new.bytes) regrouped second
+
+pub returns-in-Some-clause-error : goal.returns-in-Some-clause-error
+returns-in-Some-clause-error c = ap is_error c.in-Some.is ∙ is_name-name c.in-Some.name c.as_bytes-name.ensures.name

@@ -4,18 +4,18 @@ use Rattle.tq_gate.proofs.Staging.{both_pieces, keeps_old, images_too}
 use Rattle.tq_gate.proofs.log.GateLog.append.Goals as goal
 
 pub returns-in_err-stage-clause-stop : goal.returns-in_err-stage-clause-stop
-returns-in_err-stage-clause-stop g c = λ k has.
-    keeps_old c.args.self.now k c.args.payload.now (g.H.Host.view c.args.host.now) (g.H.Host.view c.stage.new.host) (c.stage.ensures.stop k has)
+returns-in_err-stage-clause-stop g c = λ has.
+    keeps_old c.args.self.now (g.H.Host.view c.args.host.now) c.args.payload.now (g.H.Host.view c.stage.new.host) (c.stage.ensures.stop has)
 
 pub returns-in_err-open_gate-clause-stop : goal.returns-in_err-open_gate-clause-stop
-returns-in_err-open_gate-clause-stop g c = λ k has.
-    both_pieces c.args.self.now k c.args.payload.now (g.H.Host.view c.args.host.now) (g.H.Host.view c.stage.new.host) (g.H.Host.view c.open_gate.new.host) (g.met.H.Host.lawful c.args.host.now) (g.met.H.Host.lawful c.stage.new.host) has
-    (c.stage.ensures.stop k has) c.in_ok-stage.ensures.staged c.in_ok-stage.ensures.frame c.in_ok-stage.ensures.settled c.open_gate.ensures.stop
+returns-in_err-open_gate-clause-stop g c = λ has.
+    both_pieces c.args.self.now (g.H.Host.view c.args.host.now) c.args.payload.now (g.H.Host.view c.stage.new.host) (g.H.Host.view c.open_gate.new.host) (g.met.H.Host.lawful c.args.host.now) (g.met.H.Host.lawful c.stage.new.host) has
+    (c.stage.ensures.stop has) c.in_ok-stage.ensures.staged c.in_ok-stage.ensures.frame c.in_ok-stage.ensures.settled c.open_gate.ensures.stop
 
 pub returns-clause-stop : goal.returns-clause-stop
-returns-clause-stop g c = λ k has.
-    both_pieces c.args.self.now k c.args.payload.now (g.H.Host.view c.args.host.now) (g.H.Host.view c.stage.new.host) (g.H.Host.view c.open_gate.new.host) (g.met.H.Host.lawful c.args.host.now) (g.met.H.Host.lawful c.stage.new.host) has
-    (c.stage.ensures.stop k has) c.in_ok-stage.ensures.staged c.in_ok-stage.ensures.frame c.in_ok-stage.ensures.settled c.open_gate.ensures.stop
+returns-clause-stop g c = λ has.
+    both_pieces c.args.self.now (g.H.Host.view c.args.host.now) c.args.payload.now (g.H.Host.view c.stage.new.host) (g.H.Host.view c.open_gate.new.host) (g.met.H.Host.lawful c.args.host.now) (g.met.H.Host.lawful c.stage.new.host) has
+    (c.stage.ensures.stop has) c.in_ok-stage.ensures.staged c.in_ok-stage.ensures.frame c.in_ok-stage.ensures.settled c.open_gate.ensures.stop
 
 pub returns-clause-added : goal.returns-clause-added
 returns-clause-added g c = λ told k is. c.in_ok-open_gate.ensures.opened told k c.args.payload.now (c.in_ok-stage.ensures.staged told k is)

@@ -1,20 +1,16 @@
-use Rattle.std.proofs.Common.{◌≡◌, ℕ, ◌+◌, ◌<◌, ◌≤◌, ◌==◌, Bool, true, List, map, length, get_or, refl, sym, ap, ◌∙◌, subst, arith, Option, Some, None, option_map}
-use Rattle.std.specs.Prelude.{is_some, option_copied}
+use Rattle.std.proofs.Common.{◌≡◌, ℕ, List, sym, ap, ◌∙◌, subst, Some, None, option_map}
 use Rattle.std.specs.Str.{bytes_eq}
-use Rattle.std.specs.List.{position, find, list_any, count_by}
-use Rattle.tq_types.specs.declared.messages.Entry.{Entry}
-use Rattle.tq_model.specs.Moves.{IndexedQueue, has_index, item_of}
+use Rattle.std.specs.List.{position, find}
+use Rattle.tq_model.specs.Moves.{IndexedQueue, item_of}
 use Rattle.tq_model.specs.DequeueStep.{can_answer}
 use Rattle.tq_space.specs.declared.shelf.HeldQueue.{HeldQueue}
 use Rattle.tq_space.specs.State.{ShelfValue}
 use Rattle.tq_space.specs.Slots.{slot_at, slot_test}
-use Rattle.tq_space.specs.Shelf.{indexed_at, IsListed}
-use Rattle.tq_space.specs.Plain.{HasNoExpirations}
-use Rattle.tq_space.specs.Reads.{indexed_named, HasDistinctIndices}
-use Rattle.tq_space.specs.Reading.{named_of, answer_in}
+use Rattle.tq_space.specs.Shelf.{indexed_at}
+use Rattle.tq_space.specs.Reads.{indexed_named}
+use Rattle.tq_space.specs.Reading.{answer_in}
 use Rattle.tq_space.proofs.Places.{position-found}
-use Rattle.tq_space.proofs.Shelves.{seen_grown, listed_grown, room_grown}
-use Rattle.tq_space.proofs.Found.{index_any, named_none, named_at, distinct_seen, lasting_seen, answer_none, answer_at}
+use Rattle.tq_space.proofs.Found.{named_none, named_at, answer_none, answer_at}
 use Rattle.tq_space.proofs.shelf.Shelf.answering.Goals as goal
 
 pub returns-in_default : goal.returns-in_default

@@ -1,12 +1,9 @@
-use Rattle.std.proofs.Common.{◌≡◌, ℕ, ◌+◌, ◌-◌, ◌<◌, ◌≤◌, ◌==◌, Bool, true, false, List, [], ◌∷◌, map, length, get_or, set, refl, sym, ap, ◌∙◌, subst, arith, Option, Some, None, option_map, vec_len, vec_capacity}
-use Rattle.std.specs.List.{position, find, remove}
+use Rattle.std.proofs.Common.{◌≡◌, ◌==◌, List, refl, sym, ap, ◌∙◌, subst, Some, None}
+use Rattle.std.specs.List.{position}
 use Rattle.tq_model.specs.Space.{Queue, change_first}
-use Rattle.tq_model.specs.Moves.{IndexedQueue, queue_of, has_index, on_queue, queue_dropped}
+use Rattle.tq_model.specs.Moves.{IndexedQueue, queue_of, has_index, on_queue}
 use Rattle.tq_space.specs.declared.shelf.HeldQueue.{HeldQueue}
 use Rattle.tq_space.specs.State.{ShelfValue}
-use Rattle.tq_space.specs.Plain.{HasNoEntries}
-use Rattle.tq_space.specs.Shelf.{indexed_at, IsListed}
-use Rattle.tq_space.specs.Grown.{HasRoomIn}
 use Rattle.tq_space.proofs.Places.{position-found}
 use Rattle.tq_space.proofs.Shelves.{room_set, room_at}
 use Rattle.tq_space.proofs.Definitions.{changed_listed, changed_seen, changed_nothing}

@@ -1,14 +1,11 @@
-use Rattle.std.proofs.Common.{◌≡◌, ℕ, ◌+◌, ◌-◌, ◌<◌, ◌≤◌, ◌==◌, Bool, true, false, List, [], ◌∷◌, map, length, get_or, set, refl, sym, ap, ◌∙◌, subst, arith, Option, Some, None, option_map, vec_len, vec_capacity}
-use Rattle.std.specs.List.{position, find, remove}
-use Rattle.tq_model.specs.Space.{Queue, change_first}
-use Rattle.tq_model.specs.Moves.{IndexedQueue, queue_of, has_index, on_queue, queue_dropped}
+use Rattle.std.proofs.Common.{◌≡◌, ◌==◌, List, map, sym, ap, ◌∙◌, subst, arith, Some, None}
+use Rattle.std.specs.List.{position, find}
+use Rattle.tq_model.specs.Moves.{IndexedQueue, has_index, queue_dropped}
 use Rattle.tq_space.specs.declared.shelf.HeldQueue.{HeldQueue}
 use Rattle.tq_space.specs.State.{ShelfValue}
 use Rattle.tq_space.specs.Plain.{HasNoEntries}
 use Rattle.tq_space.specs.Shelf.{indexed_at, IsListed}
 use Rattle.tq_space.specs.Grown.{HasRoomIn}
-use Rattle.tq_space.proofs.Places.{position-found}
-use Rattle.tq_space.proofs.Shelves.{room_set, room_at}
 use Rattle.tq_space.proofs.Definitions.{dropped_listed, dropped_seen, dropped_nothing, room_dropped}
 use Rattle.tq_space.proofs.shelf.Shelf.drop_queue.Goals as goal
 

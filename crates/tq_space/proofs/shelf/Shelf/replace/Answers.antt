@@ -1,7 +1,7 @@
-use Rattle.std.proofs.Common.{◌≡◌, true, List, refl, sym, ap, ◌∙◌, subst, Option, Some, None, option_map}
+use Rattle.std.proofs.Common.{◌≡◌, sym, ap, ◌∙◌, Option, None, option_map}
 use Rattle.std.specs.List.{list_any}
 use Rattle.tq_model.specs.Space.{Item}
-use Rattle.tq_model.specs.Moves.{IndexedQueue, item_of, item_with_id, item_replaced, has_index}
+use Rattle.tq_model.specs.Moves.{item_of, item_with_id, item_replaced, has_index}
 use Rattle.tq_space.proofs.Counts.{any_removed, removed_nothing}
 use Rattle.tq_space.proofs.shelf.Shelf.replace.Goals as goal
 

@@ -1,16 +1,13 @@
-use Rattle.std.proofs.Common.{◌≡◌, ◌≢◌, ℕ, ◌+◌, ◌-◌, ◌<◌, ◌≤◌, ◌==◌, Bool, true, false, List, [], ◌∷◌, map, length, get_or, set, refl, sym, ap, ◌∙◌, subst, arith, Option, Some, None, option_map, vec_len, vec_capacity}
+use Rattle.std.proofs.Common.{◌≡◌, ℕ, true, false, List, sym, ap, ◌∙◌, subst, Some, None, option_map}
 use Rattle.std.specs.Prelude.{is_some}
-use Rattle.std.specs.List.{position, position_or_len, list_any, insert, remove}
-use Rattle.tq_model.specs.Space.{has_id, name_before}
-use Rattle.tq_model.specs.Moves.{item_of, item_inserted, item_removed, item_with_id, IndexedQueue, queue_added, has_index}
-use Rattle.tq_types.specs.declared.messages.Entry.{Entry}
+use Rattle.std.specs.List.{position}
+use Rattle.tq_model.specs.Space.{has_id}
+use Rattle.tq_model.specs.Moves.{item_of, item_with_id, IndexedQueue}
 use Rattle.tq_space.specs.declared.shelf.HeldQueue.{HeldQueue}
 use Rattle.tq_space.specs.State.{ShelfValue}
-use Rattle.tq_space.specs.Slots.{slot_at, slot_test, label_before}
-use Rattle.tq_space.specs.Shelf.{indexed_at}
-use Rattle.tq_space.proofs.Places.{position_or_len-within, position-none, position-found}
-use Rattle.tq_space.proofs.Keys.{IsRekeyed, index_there, nothing_held, no_item_held}
-use Rattle.tq_space.proofs.Shelves.{inserted_listed, inserted_seen, removed_listed, removed_seen, removed_item, room_less, room_set, room_at, position-passes, slab_less, grown_same, grown_set, seen_grown, listed_grown, room_grown, added_listed, added_seen, room_added}
+use Rattle.tq_space.specs.Slots.{slot_at, slot_test}
+use Rattle.tq_space.proofs.Keys.{no_item_held}
+use Rattle.tq_space.proofs.Shelves.{position-passes}
 use Rattle.tq_space.proofs.Found.{item_at_id}
 use Rattle.tq_space.proofs.shelf.Shelf.with_id.Goals as goal
 

@@ -1,13 +1,10 @@
-use Rattle.std.proofs.Common.{◌≡◌, ℕ, ◌+◌, ◌≤◌, true, false, List, [], length, refl, sym, ap, ◌∙◌, subst, arith}
-use Rattle.std.specs.List.{find, list_any, sum_by}
-use Rattle.tq_model.specs.declared.space.Change.{Change}
-use Rattle.tq_model.specs.declared.space.QueueDef.{QueueDef}
-use Rattle.tq_model.specs.Space.{Queue, Item}
-use Rattle.tq_model.specs.Moves.{IndexedQueue, has_index, queue_of}
+use Rattle.std.proofs.Common.{◌≡◌, List, length, sym, ap, ◌∙◌, subst}
+use Rattle.std.specs.List.{find, sum_by}
+use Rattle.tq_model.specs.Space.{Item}
+use Rattle.tq_model.specs.Moves.{IndexedQueue, has_index}
 use Rattle.tq_model.specs.Room.{item_pages, queue_pages}
-use Rattle.tq_space.specs.State.{ShelfValue, SpaceState}
-use Rattle.tq_space.specs.Kept.{held_of}
-use Rattle.tq_space.specs.Plain.{CanReplace, CanDrop, HasNoEntries}
+use Rattle.tq_space.specs.State.{SpaceState}
+use Rattle.tq_space.specs.Plain.{CanDrop, HasNoEntries}
 use Rattle.tq_space.proofs.Counts.{total, total_dropped, length_of}
 use Rattle.tq_space.proofs.space.Space.drop_queue.Goals as goal
 

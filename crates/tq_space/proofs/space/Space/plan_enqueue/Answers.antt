@@ -1,33 +1,21 @@
-use Rattle.std.proofs.Common.{◌≡◌, ℕ, ◌+◌, ◌-◌, ◌<◌, ◌≤◌, Bool, true, false, List, [], ◌∷◌, ◌++◌, map, length, get_or, drop, reverse, refl, sym, ap, ◌∙◌, subst, arith, Option, Some, None, Ok, Err, option_map}
-use Rattle.std.specs.Prelude.{is_some, option_copied, option_to_list, if◌then◌else◌}
-use Rattle.std.specs.List.{find, list_any, sum_by}
-use Rattle.std.proofs.lemmas.Result.{on_ok_weaker}
-use Rattle.std.proofs.lemmas.List.{reverse-reverse, at_drop_more, at_drop_all, drop_all}
+use Rattle.std.proofs.Common.{◌≡◌, ℕ, List, [], ◌∷◌, length, refl, sym, ap, ◌∙◌, subst, Option, Some, None}
+use Rattle.std.specs.Prelude.{if◌then◌else◌}
+use Rattle.std.specs.List.{find}
 use Rattle.tq_types.specs.declared.identifiers.MsgId.{MsgId}
 use Rattle.tq_types.specs.declared.messages.Entry.{Entry}
-use Rattle.tq_types.specs.declared.rooms.Lack.{Lack}
-use Rattle.tq_types.specs.declared.messages.Qos.{Qos}
-use Rattle.tq_model.specs.declared.calls.CallAnswer.{CallAnswer}
-use Rattle.tq_model.specs.declared.calls.CallAnswer.TheVariants.{Enqueued, BadQueue, NoMessage, NoSpace, Dequeued}
-use Rattle.tq_model.specs.declared.space.SpaceMove.{SpaceMove}
-use Rattle.tq_model.specs.declared.space.SpaceMove.TheVariants.{Insert, Remove, PutQueue}
-use Rattle.tq_model.specs.Space.{Item}
-use Rattle.tq_model.specs.Moves.{IndexedQueue, IndexedSpace, the_queue, space_of, item_of, item_inserted, item_removed, item_with_id, queue_added, has_index, moved, moved_by, purged_of}
-use Rattle.tq_model.specs.Room.{item_pages, queue_pages, pages_at, message_rooms, first_lacking}
-use Rattle.tq_model.specs.EnqueueStep.{quality, next_id, enqueue_step, enqueue_refusal}
-use Rattle.tq_model.specs.DequeueStep.{delivered, dequeue_step, dequeue_refusal}
+use Rattle.tq_model.specs.declared.calls.CallAnswer.TheVariants.{Enqueued, BadQueue, NoSpace}
+use Rattle.tq_model.specs.declared.space.SpaceMove.TheVariants.{Insert}
+use Rattle.tq_model.specs.Moves.{IndexedQueue, space_of}
+use Rattle.tq_model.specs.Room.{pages_at, message_rooms, first_lacking}
+use Rattle.tq_model.specs.EnqueueStep.{quality, next_id}
 use Rattle.tq_space.specs.declared.shelf.Named.{Named}
-use Rattle.tq_space.specs.declared.plans.Refusal.TheVariants.{Refused}
-use Rattle.tq_space.specs.State.{ShelfValue, SpaceState}
-use Rattle.tq_space.specs.Kept.{held_of}
-use Rattle.tq_space.specs.Plain.{HasNoExpirations, CanMove, CanMoveBy}
-use Rattle.tq_space.specs.Planned.{MeetsStep, IsPlanOf}
-use Rattle.tq_space.specs.NewEntry.{plain_item}
+use Rattle.tq_space.specs.State.{SpaceState}
+use Rattle.tq_space.specs.Plain.{HasNoExpirations}
+use Rattle.tq_space.specs.NewEntry.{entry_of}
 use Rattle.tq_space.specs.Reads.{indexed_named, HasDistinctIndices}
-use Rattle.tq_space.specs.Reading.{named_of, answer_in}
-use Rattle.tq_space.proofs.Counts.{total, total_inserted, total_removed, total_added, removed_nothing, length_of, length_more, length_less, pages_more, pages_less}
-use Rattle.tq_space.proofs.Taken.{last_first, none_of, some_of}
-use Rattle.tq_space.proofs.Steps.{enqueue_refused, refused_badly, refused_room, enqueue_planned, dequeue_is, dequeue_refusal_is, dequeue_refused, dequeue_planned}
+use Rattle.tq_space.specs.Reading.{named_of}
+use Rattle.tq_space.proofs.Taken.{none_of, some_of}
+use Rattle.tq_space.proofs.Steps.{enqueue_refused, refused_badly, refused_room, enqueue_planned}
 use Rattle.tq_space.proofs.space.Space.plan_enqueue.Goals as goal
 
 pub returns-in_default-clause-step : goal.returns-in_default-clause-step
@@ -105,13 +93,31 @@ returns-clause-step c =
     let found : find (indexed_named call.queue) held.queues ≡ Some q = subst (λ (l : List IndexedQueue). find (indexed_named call.queue) l ≡ Some q) view named.1 in
     let qos_is : c.chosen-qos.result ≡ quality call.qos q.queue.qos = c.chosen-qos.ensures ∙ ap (λ (n : Named). quality call.qos n.qos) (sym named.2) in
     let need_is : pages_at (quality call.qos q.queue.qos) (length call.body) ≡ c.message_pages.result = sym (c.message_pages.ensures.pages ∙ λ i. pages_at (qos_is i) (c.len.ensures i)) in
+    let index_is : c.in-Some.queue.index ≡ q.index = ap (λ (n : Named). n.index) (sym named.2) in
     let distinct = subst HasDistinctIndices view c.named.ensures.indices in
     let id_is = c.id_of-id.ensures in
     let fits = ap (λ (n : ℕ). first_lacking (message_rooms (space_of held) (space_of held) n)) need_is ∙ sym c.lack.ensures ∙ c.in_default-lack.is in
-    enqueue_planned held lasting call clock q found next distinct fits c.in-Ok.entry
-    (c.in-Ok.ensures.item ∙ λ i. plain_item call (qos_is i) (id_is i) next)
-    (c.in-Ok.ensures.queue ∙ ap (λ (n : Named). n.index) (sym named.2))
-    c.in-Ok.ensures.plain
-    (c.in-Ok.ensures.pages ∙ ap (λ (x : Qos). pages_at x (length call.body)) qos_is)
-    c.in-Ok-plan_of.plan c.in-Ok-plan_of.ensures.purge c.in-Ok-plan_of.ensures.moves
+    enqueue_planned held lasting call clock q found next distinct fits
+    (entry_of c.args.ask.now q.index (quality call.qos q.queue.qos) (next_id (space_of held) next)) refl refl
+    (record { mark = refl; expiration = c.requires.plain.expiration }) refl
+    c.in-Ok-plan_of.plan c.in-Ok-plan_of.ensures.purge
+    (c.in-Ok-plan_of.ensures.moves ∙ ap (λ (e : Entry). Insert e ∷ []) (c.in-Ok.ensures ∙ λ i. entry_of c.args.ask.now (index_is i) (qos_is i) (id_is i)))
     (c.in-Ok-plan_of.ensures.answer ∙ ap (λ (o : Option MsgId). Some (Enqueued o)) (c.asked_id.ensures ∙ ap (λ (id : MsgId). if call.want_id then Some id else None) id_is))
+
+pub returns-clause-moves : goal.returns-clause-moves
+returns-clause-moves c =
+    let held = c.args.self.now.held in
+    let call = c.args.ask.now.call in
+    let next = c.args.ask.now.next in
+    let view = ap (λ (s : SpaceState). s.held.queues) c.self.view_is in
+    let named = some_of named_of (find (indexed_named call.queue) c.self.inside.shelf.queues) c.in-Some.queue (sym c.in-Some.ensures.named) in
+    let q = named.0 in
+    let qos_is : c.chosen-qos.result ≡ quality call.qos q.queue.qos = c.chosen-qos.ensures ∙ ap (λ (n : Named). quality call.qos n.qos) (sym named.2) in
+    let index_is : c.in-Some.queue.index ≡ q.index = ap (λ (n : Named). n.index) (sym named.2) in
+    let id_is = c.id_of-id.ensures in
+    record {
+      purge = c.in-Ok-plan_of.ensures.purge;
+      queue = q;
+      found = subst (λ (l : List IndexedQueue). find (indexed_named call.queue) l ≡ Some q) view named.1;
+      moves = c.in-Ok-plan_of.ensures.moves ∙ ap (λ (e : Entry). Insert e ∷ []) (c.in-Ok.ensures ∙ λ i. entry_of c.args.ask.now (index_is i) (qos_is i) (id_is i));
+    }

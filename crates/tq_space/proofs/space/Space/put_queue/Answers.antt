@@ -1,13 +1,7 @@
-use Rattle.std.proofs.Common.{◌≡◌, ℕ, ◌+◌, ◌≤◌, true, false, List, [], length, refl, sym, ap, ◌∙◌, subst, arith}
-use Rattle.std.specs.List.{find, list_any, sum_by}
-use Rattle.tq_model.specs.declared.space.Change.{Change}
-use Rattle.tq_model.specs.declared.space.QueueDef.{QueueDef}
-use Rattle.tq_model.specs.Space.{Queue, Item}
+use Rattle.std.proofs.Common.{◌≡◌, List, refl, sym, ap, ◌∙◌}
+use Rattle.tq_model.specs.Space.{Queue}
 use Rattle.tq_model.specs.Moves.{IndexedQueue, has_index, queue_of}
-use Rattle.tq_model.specs.Room.{item_pages, queue_pages}
-use Rattle.tq_space.specs.State.{ShelfValue, SpaceState}
-use Rattle.tq_space.specs.Kept.{held_of}
-use Rattle.tq_space.specs.Plain.{CanReplace, CanDrop, HasNoEntries}
+use Rattle.tq_model.specs.Room.{queue_pages}
 use Rattle.tq_space.proofs.Counts.{total, total_added, total_changed, length_of}
 use Rattle.tq_space.proofs.space.Space.put_queue.Goals as goal
 

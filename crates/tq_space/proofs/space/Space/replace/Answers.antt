@@ -1,13 +1,10 @@
-use Rattle.std.proofs.Common.{◌≡◌, ℕ, ◌+◌, ◌≤◌, true, false, List, [], length, refl, sym, ap, ◌∙◌, subst, arith}
-use Rattle.std.specs.List.{find, list_any, sum_by}
+use Rattle.std.proofs.Common.{◌≡◌, List, refl, sym, ap, ◌∙◌, subst}
 use Rattle.tq_model.specs.declared.space.Change.{Change}
-use Rattle.tq_model.specs.declared.space.QueueDef.{QueueDef}
-use Rattle.tq_model.specs.Space.{Queue, Item}
-use Rattle.tq_model.specs.Moves.{IndexedQueue, IndexedSpace, space_of, item_with_id, item_replaced, has_index, queue_of}
+use Rattle.tq_model.specs.Moves.{IndexedQueue, IndexedSpace, space_of, item_with_id, item_replaced}
 use Rattle.tq_model.specs.Room.{item_pages, queue_pages, messages_held, pages_held}
-use Rattle.tq_space.specs.State.{ShelfValue, SpaceState}
+use Rattle.tq_space.specs.State.{SpaceState}
 use Rattle.tq_space.specs.Kept.{held_of}
-use Rattle.tq_space.specs.Plain.{CanReplace, CanDrop, HasNoEntries}
+use Rattle.tq_space.specs.Plain.{CanReplace}
 use Rattle.tq_space.proofs.Counts.{total, total_replaced, length_of, length_more, length_less, pages_more, pages_less}
 use Rattle.tq_space.proofs.space.Space.replace.Goals as goal
 

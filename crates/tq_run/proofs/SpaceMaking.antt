@@ -1,0 +1,240 @@
+-- How a space is made: what a stop leaves while it is, and what is on the device then.
+use Rattle.std.proofs.Common.{◌≡◌, ◌⊎◌, inl, inr, ⊎_elim, ◌<◌, ◌≤◌, ℕ, ◌+◌, ◌-◌, ◌*◌, List, [], Option, Some, None, refl, sym, ◌∙◌, ap, subst, arith, length, get_or, take, drop}
+use Rattle.std.specs.Prelude.{option_map}
+use Rattle.std.specs.Option.{option_and_then}
+use Rattle.std.proofs.lemmas.Bool.Decides.{nat_tests}
+use Rattle.std.proofs.lemmas.List.{ext_get_or, length-drop, get_or-drop, drop-drop}
+use Rattle.tq_field.specs.Digits.{number_of}
+use Rattle.tq_field.specs.Places.{run_at}
+use Rattle.tq_field.specs.GatedLog.{log_reading}
+use Rattle.tq_host.specs.View.{Told, View, IsLawful, IsSettled}
+use Rattle.tq_host.specs.Within.{Within}
+use Rattle.tq_host.proofs.Within.{weaker, in_a_row}
+use Rattle.tq_model.specs.declared.answer.Answer.{Answer}
+use Rattle.tq_model.specs.declared.answer.Answer.TheVariants as answers
+use Rattle.tq_model.specs.declared.answer.SpaceAnswer.TheVariants as space_answers
+use Rattle.tq_model.specs.declared.answer.SpacePages.{SpacePages}
+use Rattle.tq_model.specs.declared.request.SpaceCreation.{SpaceCreation}
+use Rattle.tq_model.specs.declared.space.Shape.{Shape}
+use Rattle.tq_model.specs.Moves.{IndexedSpace}
+use Rattle.tq_model.specs.Parts.{IsPart}
+use Rattle.tq_model.specs.Plain.{IsBefore, IsNewer}
+use Rattle.tq_model.specs.Site.{Site, volume_of}
+use Rattle.tq_model.specs.Space.{overhead_pages}
+use Rattle.tq_model.specs.SpaceForm.{RawSpace, raw_space, shape_of, empty_space, log_bytes, replayed}
+use Rattle.tq_model.specs.Step.{Outcome, create_space, unless, space_made, shape_asked, pages_asked, field_refused}
+use Rattle.tq_model.specs.Reading.{hold_all, page_tests, space_start}
+use Rattle.tq_model.proofs.Replays.{empty_plain, empty_ids}
+use Rattle.tq_device.specs.declared.content.DeviceContent.{DeviceContent}
+use Rattle.tq_device.specs.declared.content.NamedSpace.{NamedSpace}
+use Rattle.tq_device.specs.Content.{Stands, part_of, entered, IsLonger, IsSameButTable, IsOldOrEntered, IsAny, IsAnyStep}
+use Rattle.tq_spacefile.specs.declared.file.SpaceFile.{SpaceFile}
+use Rattle.tq_spacefile.specs.File.{IsFormatted, IsSameButSpace, HasSpace, IsFile, space_end, place_in, held_in, logged_in}
+use Rattle.tq_run.specs.declared.manager.Manager.{Manager}
+use Rattle.tq_run.specs.Manager.{site_of, site_with, site_at, placed_at, placed_in, place_of, IsContentOn}
+use Rattle.tq_run.specs.Spaces.{IsShape, IsAdmitted, HasNewSpace, IsNewSpaceOn, IsBareOrNew}
+use Rattle.tq_run.specs.Stops.{ImageStands, IsEither}
+use Rattle.tq_run.proofs.FoundLemmas.{image_at, image_bare, part_of_stands}
+use Rattle.tq_device.proofs.Offered.{below_stands}
+use Rattle.tq_device.proofs.Longer.{longer_stands}
+use Rattle.tq_run.proofs.Stopping.{any_steps, other_step}
+
+-- ---- the pages of a space
+
+-- what lies from a place on
+drop_same : (at : ℕ) (old new : List ℕ) → length new ≡ length old → ((i : ℕ) → at ≤ i → get_or new i 0 ≡ get_or old i 0) → drop at new ≡ drop at old
+drop_same at old new size bytes =
+    ext_get_or 0 (drop at new) (drop at old) (length-drop at new ∙ ap (λ n. n - at) size ∙ sym (length-drop at old))
+    (λ i lt. get_or-drop at new i 0 ∙ bytes (at + i) (omega arith) ∙ sym (get_or-drop at old i 0))
+
+module _ (at : ℕ) (old new : List ℕ) (same : drop at new ≡ drop at old) where
+  run_behind : (k n : ℕ) → run_at (at + k) n new ≡ run_at (at + k) n old
+  run_behind k n = ap (take n) (sym (drop-drop k at new) ∙ ap (drop k) same ∙ drop-drop k at old)
+
+  byte_behind : (k : ℕ) → get_or new (at + k) 0 ≡ get_or old (at + k) 0
+  byte_behind k = sym (get_or-drop at new k 0) ∙ ap (λ (l : List ℕ). get_or l k 0) same ∙ get_or-drop at old k 0
+
+  raw_space_same : raw_space at new ≡ raw_space at old
+  raw_space_same =
+      let mark = ap (take 8) same in
+      let version = ap number_of (run_behind 8 2) in
+      let queues = ap number_of (run_behind 10 2) in
+      let messages = ap number_of (run_behind 12 2) in
+      let transactions = ap number_of (run_behind 14 2) in
+      let memory = ap number_of (run_behind 16 8) in
+      let size = byte_behind 24 in
+      let error = ap (λ (n : ℕ). run_at (at + 25) n new) size ∙ run_behind 25 (get_or old (at + 24) 0) in
+      λ i. record {
+        mark = mark i;
+        version = version i;
+        queues = queues i;
+        messages = messages i;
+        transactions = transactions i;
+        memory = memory i;
+        error_size = size i;
+        error = error i;
+      }
+
+-- pages that are formatted stay so where the bytes behind the header do
+pub formatted_kept : (shape : Shape) (old new : List ℕ) → length new ≡ length old → ((i : ℕ) → 131072 ≤ i → get_or new i 0 ≡ get_or old i 0) → IsFormatted shape old → IsFormatted shape new
+formatted_kept shape old new size bytes is =
+    let same = drop_same 131072 old new size bytes in
+    let raw = raw_space_same 131072 old new same in
+    record {
+      page = ap (λ (r : RawSpace). hold_all (page_tests space_start shape.pages r)) raw ∙ is.page;
+      shape_is = ap (shape_of shape.pages) raw ∙ is.shape_is;
+      empty = ap log_reading (run_behind 131072 old new same 2048 (log_bytes shape.pages)) ∙ is.empty;
+    }
+
+-- what is read of pages that are formatted
+pub formatted_has : (d : DeviceContent) (n : NamedSpace) (shape : Shape) (epoch : ℕ) (image : List ℕ) → shape.pages ≡ n.pages → IsFormatted shape image → space_end shape.pages ≤ length image
+    → HasSpace (place_of d n) epoch (empty_space shape d.site (8 * n.ordinal + 0)) 0 image
+formatted_has d n shape epoch image pages is reach =
+    let number = 8 * n.ordinal + 0 in
+    subst (λ p. HasSpace (record { dev = 0; pages = p; site = d.site; number = number }) epoch (empty_space shape d.site number) 0 image) pages
+    (record {
+      reach = reach;
+      page = is.page;
+      payloads = [];
+      reads =
+          ap (option_and_then (λ (payloads : List (List ℕ)). option_map (λ (s : IndexedSpace). record { payloads = payloads; space = s }) (replayed epoch payloads (empty_space (shape_of shape.pages (raw_space space_start image)) d.site number)))) is.empty
+          ∙ ap (λ (s : Shape). Some (record { payloads = []; space = empty_space s d.site number })) is.shape_is;
+      ends = refl;
+    })
+
+-- ---- while the space is laid out
+
+-- where a device is settled, each image has what is read
+pub settled_all : {tells : Told} (P : List ℕ → Type 0) (v : View) → IsLawful tells v → IsSettled 0 v → (tells.reads → P (v.reads 0)) → (c : List ℕ) → v.may_leave 0 c → P c
+settled_all P v lawful settled done c may = subst P (sym (settled c may)) (done (lawful.reads_told (lawful.stops_told 0 c may)))
+
+module _ (d : DeviceContent) (name : List ℕ) (shape : Shape) where
+  -- the device gets its length
+  pub growing : (a b : View) → d.named ≡ None → ((c : List ℕ) → a.may_leave 0 c → Stands d c) → Within 0 IsLonger IsAny a b → Within 0 IsAnyStep (Stands d) a b
+  growing a b bare stand within = other_step 0 IsLonger IsAnyStep IsAny (Stands d) a b (λ i c was step any. (tt, longer_stands d i c bare step (stand i was))) within
+
+  -- the space gets its pages
+  formatting : (a b : View) → ((c : List ℕ) → a.may_leave 0 c → Stands d c) → Within 0 IsSameButSpace IsAny a b → Within 0 IsAnyStep (Stands d) a b
+  formatting a b stand within = other_step 0 IsSameButSpace IsAnyStep IsAny (Stands d) a b (λ i c was step any. (tt, below_stands d i c step.size step.bytes (stand i was))) within
+
+  -- the device gets its length, and then the space its pages
+  pub preparing : (a b e : View) → d.named ≡ None → ((c : List ℕ) → a.may_leave 0 c → Stands d c) → Within 0 IsLonger IsAny a b → Within 0 IsSameButSpace IsAny b e → Within 0 IsAnyStep (Stands d) a e
+  preparing a b e bare stand first second =
+      let grown = growing a b bare stand first in
+      in_a_row 0 IsAnyStep any_steps (Stands d) a b e grown (formatting b e (λ c may. (grown.own c may).now) second)
+
+  -- the space comes into the table
+  pub entering : (a b : View) → ((c : List ℕ) → a.may_leave 0 c → IsFormatted shape c × (space_end shape.pages ≤ length c)) → Within 0 IsSameButTable (IsOldOrEntered d (name, shape.pages)) a b → Within 0 IsAnyStep (IsBareOrNew d name shape) a b
+  entering a b formatted within =
+      other_step 0 IsSameButTable IsAnyStep (IsOldOrEntered d (name, shape.pages)) (IsBareOrNew d name shape) a b (λ i c was step is. (
+        tt,
+        ⊎_elim
+            (λ old. inl (record { size = old.size; tests = old.tests; part = old.part }))
+            (λ new. inr (record {
+              parts = record { size = new.size; tests = new.tests; part = new.part };
+              formatted = formatted_kept shape i c step.size (λ k le. step.bytes k (inr (omega arith)) (inr (omega arith))) (formatted i was).0;
+              reach = omega (arith, step.size, (formatted i was).1);
+            })) is,
+      )) within
+
+  -- nothing more than that
+  pub still_bare : (a b : View) → Within 0 IsAnyStep (Stands d) a b → Within 0 IsAnyStep (IsBareOrNew d name shape) a b
+  still_bare a b within = weaker 0 IsAnyStep any_steps (Stands d) (IsBareOrNew d name shape) a b (λ i c was is. inl (part_of_stands d c is)) within
+
+-- ---- the site with the new space
+
+-- a shape that is asked for, with fields in their limits and more pages than the overhead
+pub is_shape : (c : SpaceCreation) → field_refused c ≡ None → overhead_pages (shape_asked c) < c.pages → IsShape (shape_asked c)
+is_shape c fields large = record {
+  queues = (grind (arith, nat_tests), grind (arith, nat_tests));
+  messages = (grind (arith, nat_tests), grind (arith, nat_tests));
+  transactions = (grind (arith, nat_tests), grind (arith, nat_tests));
+  memory = grind (arith, nat_tests);
+  pages = (large, grind (arith, nat_tests));
+}
+
+-- the space as the table of its device names it
+abbrev new_named : DeviceContent → List ℕ → ℕ → NamedSpace
+new_named d name pages = record { name = name; ordinal = d.next_space; pages = pages }
+
+-- the space as it is made
+abbrev new_held : DeviceContent → Shape → IndexedSpace
+new_held d shape = empty_space shape d.site (8 * d.next_space + 0)
+
+-- its number, on device 0
+at_number : (d : DeviceContent) → 8 * d.next_space ≡ 8 * d.next_space + 0
+at_number d = omega arith
+
+-- the site with the space
+abbrev new_site : DeviceContent → List ℕ → Shape → ℕ → Site
+new_site d name shape next = site_at (entered d name shape.pages) (Some (placed_at (new_named d name shape.pages) 0 (new_held d shape))) next
+
+-- what the machine does where nothing refuses the space
+abbrev new_outcome : SpaceCreation → DeviceContent → ℕ → Outcome
+new_outcome c d next = record { site = new_site d c.name (shape_asked c) next; answer = answers.Space (space_answers.Created (record { number = 8 * d.next_space + 0; pages = pages_asked c })) }
+
+module _ (c : SpaceCreation) (m : Manager) (d : DeviceContent) (is : IsAdmitted m c d) where
+  space_granted : create_space c (site_of m) ≡ new_outcome c d m.next
+  space_granted =
+      ap (λ (r : Option Answer). unless r (site_of m) (space_made c (site_of m) (volume_of (site_of m) c.dev))) is.granted
+      ∙ ap (λ (content : Option DeviceContent). space_made c (site_with content m.file m.next) (volume_of (site_with content m.file m.next) c.dev)) is.content ∙ at_zero
+    where
+      at_zero : space_made c (site_with (Some d) m.file m.next) (volume_of (site_with (Some d) m.file m.next) c.dev) ≡ new_outcome c d m.next
+      at_zero = subst (λ dev. space_made (record c { dev = dev }) (site_with (Some d) m.file m.next) (volume_of (site_with (Some d) m.file m.next) dev) ≡ new_outcome c d m.next) (sym is.dev) refl
+
+  bare_site : site_of m ≡ site_at d None m.next
+  bare_site = ap (λ (content : Option DeviceContent). site_with content m.file m.next) is.content ∙ ap (λ (named : Option NamedSpace). site_at d (placed_in named m.file) m.next) is.bare
+
+  -- an image without the space, and one with it
+  bare_stands : (image : List ℕ) → IsPart (part_of d) image → ImageStands (site_of m) image
+  bare_stands image parts = subst (λ (s : Site). ImageStands s image) (sym bare_site) (image_bare d m.next image parts is.bare)
+
+  new_stands : (image : List ℕ) → IsNewSpaceOn d c.name (shape_asked c) image → ImageStands (create_space c (site_of m)).site image
+  new_stands image new =
+      let shape = shape_asked c in
+      let n = new_named d c.name shape.pages in
+      subst (λ (o : Outcome). ImageStands o.site image) (sym space_granted)
+      (image_at (entered d c.name shape.pages) n (new_held d shape) 0 m.next image new.parts refl (empty_plain shape d.site (8 * d.next_space + 0)) (formatted_has d n shape d.epoch image refl new.formatted new.reach))
+
+  -- the images while it is made
+  pub making : (shape : Shape) (a b : View) → shape ≡ shape_asked c → Within 0 IsAnyStep (IsBareOrNew d c.name shape) a b → Within 0 IsAnyStep (IsEither (site_of m) (create_space c (site_of m)).site) a b
+  making shape a b asked within =
+      weaker 0 IsAnyStep any_steps (IsBareOrNew d c.name shape) (IsEither (site_of m) (create_space c (site_of m)).site) a b
+      (λ i image was is. ⊎_elim
+      (λ bare. inl (bare_stands image bare))
+      (λ new. inr (new_stands image (subst (λ (s : Shape). IsNewSpaceOn d c.name s image) asked new))) is) within
+
+  pub new_answer : (pages : SpacePages) → pages ≡ pages_asked c → answers.Space (space_answers.Created (record { number = 8 * d.next_space; pages = pages })) ≡ (create_space c (site_of m)).answer
+  new_answer pages asked =
+      ap (λ (p : SpacePages). answers.Space (space_answers.Created (record { number = 8 * d.next_space; pages = p }))) asked
+      ∙ ap (λ n. answers.Space (space_answers.Created (record { number = n; pages = pages_asked c }))) (at_number d)
+      ∙ ap (λ (o : Outcome). o.answer) (sym space_granted)
+
+  pub site_granted : (shape : Shape) → shape ≡ shape_asked c → new_site d c.name shape m.next ≡ (create_space c (site_of m)).site
+  site_granted shape asked = ap (λ (s : Shape). new_site d c.name s m.next) asked ∙ ap (λ (o : Outcome). o.site) (sym space_granted)
+
+-- ---- the file of the new space
+
+module _ (d e : DeviceContent) (name : List ℕ) (shape : Shape) (f : SpaceFile) (next : ℕ) (is : e ≡ entered d name shape.pages) (held : held_in f ≡ empty_space shape d.site (8 * d.next_space)) where
+  held_new : held_in f ≡ new_held d shape
+  held_new = held ∙ ap (λ n. empty_space shape d.site n) (at_number d)
+
+  pub new_site_of : logged_in f ≡ 0 → site_with (Some e) (Some f) next ≡ new_site d name shape next
+  new_site_of logged =
+      ap (λ (x : DeviceContent). site_with (Some x) (Some f) next) is
+      ∙ ap (λ (x : IndexedSpace). site_at (entered d name shape.pages) (Some (placed_at (new_named d name shape.pages) (logged_in f) x)) next) held_new
+      ∙ ap (λ k. site_at (entered d name shape.pages) (Some (placed_at (new_named d name shape.pages) k (new_held d shape))) next) logged
+
+  -- an image with the new space has it as it is in memory
+  pub new_file_on : place_in f ≡ record { dev = 0; pages = shape.pages; site = d.site; number = 8 * d.next_space } → ((epoch : ℕ) (image : List ℕ) → IsFormatted shape image → space_end shape.pages ≤ length image → IsFile f epoch image)
+      → (image : List ℕ) → HasNewSpace e shape image → IsContentOn (Some e) (Some f) next image
+  new_file_on place on image has =
+      subst (λ (x : DeviceContent). Stands x image → IsContentOn (Some x) (Some f) next image) (sym is)
+      (λ stands. record {
+        stands = stands;
+        space = record {
+          place = place ∙ ap (λ n. record { dev = 0; pages = shape.pages; site = d.site; number = n }) (at_number d);
+          file = on d.epoch image has.formatted has.reach;
+          newer = subst (λ (s : IndexedSpace). IsNewer d.epoch next s) (sym held_new) (empty_ids (IsBefore d.epoch next) shape d.site (8 * d.next_space + 0));
+        };
+      }) has.stands

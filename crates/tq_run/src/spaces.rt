@@ -1,0 +1,279 @@
+ghost use Rattle.std.specs.Prelude.{◌≡◌, ◌≢◌, ◌<◌, ◌≤◌, ◌+◌, ◌-◌, List, ℕ, IfOk, IfErr, OnOk, is_some, Some, None};
+ghost use Rattle.tq_host.specs.Within.{KeepsRest, Within};
+ghost use Rattle.tq_model.specs.Site.{clusters_for, most_pages, space_named};
+ghost use Rattle.tq_model.specs.Space.{overhead_pages};
+ghost use Rattle.tq_model.specs.Step.{space_step, create_space, create_queue, space_refusal, field_refused, pages_asked, shape_asked, pages_refusal, placing_refusal};
+ghost use Rattle.tq_host.specs.View.{IsSettled};
+ghost use Rattle.tq_device.specs.Content.{IsAnyStep, Stands, entered};
+ghost use Rattle.tq_run.specs.Counts.{HasCounts};
+ghost use Rattle.tq_run.specs.Stops.{AreOn, IsEither};
+ghost use Rattle.tq_run.specs.Manager.{site_of, volume_in, IsOn, IsFit};
+ghost use Rattle.tq_run.specs.Spaces.{IsShape, IsAdmitted, HasNewSpace, IsBareOrNew};
+
+use crate::devices::{capacity_of, clusters_for, has_space};
+use crate::manager::Manager;
+use crate::queues::create_queue;
+use crate::status::Stop;
+use std::alloc::Global;
+use tq_device::{DeviceContent, enter, grow};
+use tq_host::Host;
+use tq_model::{
+    Answer, ClusterRoom, DeviceAnswer, Field, NewSpace, Shape, SpaceAnswer, SpaceCreation,
+    SpacePages, SpaceRequest, overhead_pages,
+};
+use tq_spacefile::{SpaceFile, SpacePlace, format};
+use tq_types::Name;
+
+// The bytes of a device's header, and of a cluster.
+const HEADER_BYTES: u64 = 131072;
+
+const CLUSTER_BYTES: u64 = 32768;
+
+// The most pages of a space.
+const MOST_PAGES: u64 = 262016;
+
+// The last ordinal of a space, which gives none.
+const LAST_SPACE: u32 = 268435455;
+
+// The first field that is out of its limit.
+fn field_refused(creation: &SpaceCreation) -> Option<Field>
+    ensures { result ≡ field_refused creation.now }
+{
+    if creation.pages < 1 || creation.pages > MOST_PAGES {
+        return Some(Field::Pages);
+    }
+    if creation.queues < 1 || creation.queues > 256 {
+        return Some(Field::Queues);
+    }
+    if creation.transactions < 1 || creation.transactions > 64 {
+        return Some(Field::Transactions);
+    }
+    if creation.messages < 1 || creation.messages > 8192 {
+        return Some(Field::Messages);
+    }
+    if creation.memory > 16777216 {
+        return Some(Field::Memory);
+    }
+    None
+}
+
+// The shape of a space whose fields are in their limits.
+fn shape_of(creation: &SpaceCreation) -> Shape
+    requires { field_refused creation.now ≡ None }
+    ensures { result ≡ shape_asked creation.now }
+{
+    Shape {
+        pages: creation.pages as u32,
+        queues: creation.queues as u16,
+        messages: creation.messages as u16,
+        transactions: creation.transactions as u16,
+        memory: creation.memory,
+        error: creation.error,
+    }
+}
+
+// Whether the site has a space of that name.
+pub fn is_named(manager: &Manager, name: &Name) -> bool
+    ensures { result ≡ is_some (space_named name.now (site_of manager.now)) }
+{
+    match (&manager.content, &manager.file) {
+        (Some(content), Some(_)) => match &content.named {
+            None => false,
+            Some(named) => named.name == *name,
+        },
+        _ => false,
+    }
+}
+
+// The first reason of the device not to make the space.
+fn placing_refusal(
+    content: &DeviceContent,
+    file: &Option<SpaceFile>,
+    creation: &SpaceCreation,
+) -> Option<Answer>
+    requires { creation.now.pages ≤ most_pages }
+    ensures { result ≡ placing_refusal creation.now (volume_in file.now content.now) }
+{
+    if has_space(content, file) || content.next_space >= LAST_SPACE {
+        return Some(Answer::Space(SpaceAnswer::TableFull));
+    }
+    let need = u64::from(clusters_for(creation.pages as u32));
+    let free = u64::from(capacity_of(content, file).free);
+    if free < need {
+        return Some(Answer::Space(SpaceAnswer::Lack(ClusterRoom { need, free })));
+    }
+    None
+}
+
+// The first reason of the pages, or of the device, not to make the space.
+fn pages_refusal(
+    content: &DeviceContent,
+    file: &Option<SpaceFile>,
+    creation: &SpaceCreation,
+) -> Option<Answer>
+    requires { field_refused creation.now ≡ None }
+    ensures { result ≡ pages_refusal creation.now (volume_in file.now content.now) }
+{
+    let pages = pages_of(creation);
+    if pages.pages <= pages.overhead {
+        return Some(Answer::Space(SpaceAnswer::Small(pages)));
+    }
+    placing_refusal(content, file, creation)
+}
+
+// The pages that are asked for, and those of them that are not for messages.
+fn pages_of(creation: &SpaceCreation) -> SpacePages
+    requires { field_refused creation.now ≡ None }
+    ensures { result ≡ pages_asked creation.now }
+{
+    SpacePages {
+        overhead: overhead_pages(&shape_of(creation)),
+        pages: creation.pages,
+    }
+}
+
+// What the device holds, where nothing refuses the space; else the first reason.
+fn admitted(manager: &Manager, creation: &SpaceCreation) -> Result<DeviceContent, Answer>
+    requires { IsFit manager.now }
+    ensures refused { IfErr result (λ answer. space_refusal creation.now (site_of manager.now) ≡ Some answer) }
+    ensures admitted { IfOk result (λ d. IsAdmitted manager.now creation.now d) }
+{
+    if creation.dev != 0 {
+        return Err(Answer::Device(DeviceAnswer::NoDevice));
+    }
+    let Some(content) = manager.content else {
+        return Err(Answer::Device(DeviceAnswer::NotCreated));
+    };
+    if is_named(manager, &creation.name) {
+        return Err(Answer::Space(SpaceAnswer::Taken));
+    }
+    if let Some(field) = field_refused(creation) {
+        return Err(Answer::Device(DeviceAnswer::Range(field)));
+    }
+    match pages_refusal(&content, &manager.file, creation) {
+        Some(refusal) => Err(refusal),
+        None => Ok(content),
+    }
+}
+
+// Makes the pages of the space, and enters it into the table of its device.
+fn lay_out<H: Host>(
+    host: &mut H,
+    content: &DeviceContent,
+    name: Name,
+    shape: &Shape,
+) -> Result<DeviceContent, Stop>
+    requires shape { IsShape shape.now }
+    requires bare { content.now.named ≡ None }
+    requires ordinals { content.now.next_space < 268435455 }
+    requires clusters { 4 + clusters_for shape.now.pages ≤ content.now.clusters }
+    requires holds { H.tells.reads → Stands content.now ((H.view host.old).reads 0) }
+    ensures entered { IfOk result (λ d. d ≡ entered content.now name shape.now.pages) }
+    ensures done { IfOk result (λ d. H.tells.reads → HasNewSpace d shape.now ((H.view host.new).reads 0)) }
+    ensures settled { OnOk result (IsSettled 0 (H.view host.new)) }
+    ensures stop { ((c : List ℕ) → (H.view host.old).may_leave 0 c → Stands content.now c)
+        → Within 0 IsAnyStep (IsBareOrNew content.now name shape.now) (H.view host.old) (H.view host.new) }
+    ensures counts { HasCounts result (H.view host.old) (H.view host.new) }
+    ensures rest { KeepsRest 0 (H.view host.old) (H.view host.new) }
+    ensures only { IfErr result (λ e. e ≡ Stop.Device) }
+{
+    let end = HEADER_BYTES + CLUSTER_BYTES * u64::from(clusters_for(shape.pages));
+    grow(host, 0, end).map_err(|_| Stop::Device)?;
+    format(host, 0, shape).map_err(|_| Stop::Device)?;
+    enter(host, 0, content, name, shape.pages).map_err(|_| Stop::Device)
+}
+
+// Makes a space, where nothing refuses it.
+fn make_space<H: Host>(
+    alloc: Global,
+    host: &mut H,
+    manager: &mut Manager,
+    content: &DeviceContent,
+    creation: &SpaceCreation,
+) -> Result<Answer, Stop>
+    requires admitted { IsAdmitted manager.old creation.now content.now }
+    requires fit { IsFit manager.old }
+    requires holds { H.tells.reads → IsOn manager.old ((H.view host.old).reads 0) }
+    ensures answer { IfOk result (λ a. a ≡ (create_space creation.now (site_of manager.old)).answer) }
+    ensures site { OnOk result (site_of manager.new ≡ (create_space creation.now (site_of manager.old)).site) }
+    ensures next { OnOk result (manager.new.next ≡ manager.old.next) }
+    ensures fit { OnOk result (IsFit manager.new) }
+    ensures holds { OnOk result (H.tells.reads → IsOn manager.new ((H.view host.new).reads 0)) }
+    ensures stop { AreOn manager.old (H.view host.old) → Within 0 IsAnyStep (IsEither (site_of manager.old) (create_space creation.now (site_of manager.old)).site) (H.view host.old) (H.view host.new) }
+    ensures images { OnOk result (H.tells.reads → AreOn manager.old (H.view host.old) → AreOn manager.new (H.view host.new)) }
+    ensures counts { HasCounts result (H.view host.old) (H.view host.new) }
+    ensures rest { KeepsRest 0 (H.view host.old) (H.view host.new) }
+    ensures only { IfErr result (λ e. e ≡ Stop.Device) }
+{
+    let shape = shape_of(creation);
+    let number = 8 * content.next_space;
+    let pages = pages_of(creation);
+    let entered = lay_out(host, content, creation.name, &shape)?;
+    let place = SpacePlace {
+        dev: 0,
+        pages: shape.pages,
+        site: content.site,
+        number,
+    };
+    *manager = Manager {
+        content: Some(entered),
+        file: Some(SpaceFile::new(alloc, &place, &shape)),
+        next: manager.next,
+    };
+    Ok(Answer::Space(SpaceAnswer::Created(NewSpace {
+        number,
+        pages,
+    })))
+}
+
+// Makes a space, or says the first reason not to.
+fn create_space<H: Host>(
+    alloc: Global,
+    host: &mut H,
+    manager: &mut Manager,
+    creation: &SpaceCreation,
+) -> Result<Answer, Stop>
+    requires fit { IsFit manager.old }
+    requires holds { H.tells.reads → IsOn manager.old ((H.view host.old).reads 0) }
+    ensures answer { IfOk result (λ a. a ≡ (create_space creation.now (site_of manager.old)).answer) }
+    ensures site { OnOk result (site_of manager.new ≡ (create_space creation.now (site_of manager.old)).site) }
+    ensures next { OnOk result (manager.new.next ≡ manager.old.next) }
+    ensures fit { OnOk result (IsFit manager.new) }
+    ensures holds { OnOk result (H.tells.reads → IsOn manager.new ((H.view host.new).reads 0)) }
+    ensures stop { AreOn manager.old (H.view host.old) → Within 0 IsAnyStep (IsEither (site_of manager.old) (create_space creation.now (site_of manager.old)).site) (H.view host.old) (H.view host.new) }
+    ensures images { OnOk result (H.tells.reads → AreOn manager.old (H.view host.old) → AreOn manager.new (H.view host.new)) }
+    ensures counts { HasCounts result (H.view host.old) (H.view host.new) }
+    ensures rest { KeepsRest 0 (H.view host.old) (H.view host.new) }
+    ensures only { IfErr result (λ e. e ≡ Stop.Device) }
+{
+    match admitted(manager, creation) {
+        Err(refusal) => Ok(refusal),
+        Ok(content) => make_space(alloc, host, manager, &content, creation),
+    }
+}
+
+// Does what is asked of spaces and their queues.
+pub fn serve_space<H: Host>(
+    alloc: Global,
+    host: &mut H,
+    manager: &mut Manager,
+    request: &SpaceRequest,
+) -> Result<Answer, Stop>
+    requires fit { IsFit manager.old }
+    requires holds { H.tells.reads → IsOn manager.old ((H.view host.old).reads 0) }
+    ensures answer { IfOk result (λ a. a ≡ (space_step (site_of manager.old) request.now).answer) }
+    ensures site { OnOk result (site_of manager.new ≡ (space_step (site_of manager.old) request.now).site) }
+    ensures next { OnOk result (manager.new.next ≡ manager.old.next) }
+    ensures fit { OnOk result (IsFit manager.new) }
+    ensures holds { OnOk result (H.tells.reads → IsOn manager.new ((H.view host.new).reads 0)) }
+    ensures stop { AreOn manager.old (H.view host.old) → Within 0 IsAnyStep (IsEither (site_of manager.old) (space_step (site_of manager.old) request.now).site) (H.view host.old) (H.view host.new) }
+    ensures images { OnOk result (H.tells.reads → AreOn manager.old (H.view host.old) → AreOn manager.new (H.view host.new)) }
+    ensures counts { HasCounts result (H.view host.old) (H.view host.new) }
+    ensures rest { KeepsRest 0 (H.view host.old) (H.view host.new) }
+    ensures two { IfErr result (λ e. (e ≢ Stop.Memory) → e ≡ Stop.Device) }
+{
+    match request {
+        SpaceRequest::Create(creation) => create_space(alloc, host, manager, creation),
+        SpaceRequest::CreateQueue(creation) => create_queue(alloc, host, manager, creation),
+    }
+}

@@ -1,0 +1,83 @@
+-- The moves of plans, in the words of the records of a space's log.
+use Rattle.std.proofs.Common.{◌≡◌, ℕ, ◌&&◌, Bool, true, false, List, [], ◌∷◌, refl, ap, ◌∙◌, sym, Some, eq-eqb}
+use Rattle.std.specs.Prelude.{if◌then◌else◌}
+use Rattle.std.specs.List.{All, Contains, find, list_any, position_or_len}
+use Rattle.std.proofs.lemmas.List.Folds.{list_any_at}
+use Rattle.std.proofs.lemmas.List.Elements.{All-contains}
+use Rattle.tq_types.specs.declared.identifiers.Arrival.{Arrival}
+use Rattle.tq_types.specs.declared.identifiers.MsgId.{MsgId}
+use Rattle.tq_types.specs.declared.messages.Qos.{Qos}
+use Rattle.tq_types.specs.declared.messages.Qos.TheVariants.{Persistent}
+use Rattle.tq_model.specs.declared.calls.EnqueueCall.{EnqueueCall}
+use Rattle.tq_model.specs.declared.calls.EnqueueWords.{EnqueueWords}
+use Rattle.tq_model.specs.declared.calls.EnqueueAsk.{EnqueueAsk}
+use Rattle.tq_model.specs.declared.calls.DequeueAsk.{DequeueAsk}
+use Rattle.tq_model.specs.declared.space.SpaceMove.TheVariants.{Insert, Remove}
+use Rattle.tq_model.specs.declared.record.SpaceRecord.TheVariants.{Added, Gone}
+use Rattle.tq_model.specs.Space.{Item, same_id, has_id}
+use Rattle.tq_model.specs.Moves.{IndexedQueue, IndexedSpace, space_of, indexed_holds}
+use Rattle.tq_model.specs.EnqueueStep.{quality, next_id}
+use Rattle.tq_model.specs.SpaceForm.{id_in, plain_entry, move_of, holds_arrival}
+use Rattle.tq_model.specs.Step.{enqueue_call}
+use Rattle.tq_model.specs.Plain.{IsPlainQueue, IsPlainSpace, AllIds, IsOwn}
+use Rattle.tq_space.specs.declared.plans.Plan.{Plan}
+use Rattle.tq_space.specs.Planned.{IsInsertOf, IsRemovalOf, IsAmong}
+use Rattle.tq_space.specs.NewEntry.{entry_of}
+use Rattle.tq_space.specs.Reads.{indexed_named}
+use Rattle.tq_space.proofs.Counts.{found-place}
+
+-- ---- what is found is there
+
+pub found_contained : {X : Type 0} (p : X → Bool) (xs : List X) (x : X) → find p xs ≡ Some x → Contains xs x
+found_contained p xs x found = let place = found-place p xs x found in (position_or_len p xs, place.0, place.1)
+
+contained_any : {X : Type 0} (p : X → Bool) (xs : List X) (x : X) → p x ≡ true → Contains xs x → list_any p xs ≡ true
+contained_any p xs x passes there = list_any_at p xs there.0 x there.1 (ap p there.2 ∙ passes)
+
+same_as_itself : (id : MsgId) → same_id id id ≡ true
+same_as_itself id =
+    let same = λ (n : ℕ). eq-eqb n n refl in
+    λ i. same id.site i && same id.space i && same id.epoch i && same id.number i
+
+-- an entry's identifier is held
+pub among_held : (item : Item) (held : IndexedSpace) → IsAmong item held → list_any (indexed_holds item.letter.id) held.queues ≡ true
+among_held item held among =
+    let id = item.letter.id in
+    contained_any (indexed_holds id) held.queues among.queue (contained_any (has_id id) among.queue.queue.items item (same_as_itself id) among.of_queue) among.of_space
+
+-- what holds of each identifier of a space holds of an entry's
+pub among_id : (P : MsgId → Type 0) (item : Item) (held : IndexedSpace) → AllIds P held → IsAmong item held → P item.letter.id
+among_id P item held all among =
+    let here = All-contains (λ (q : IndexedQueue). All (λ (x : Item). P x.letter.id) q.queue.items) held.queues among.queue all among.of_space in
+    All-contains (λ (x : Item). P x.letter.id) among.queue.queue.items item here among.of_queue
+
+-- ---- plans and records
+
+pub entry_plain : (words : EnqueueWords) (ask : EnqueueAsk) (index : ℕ) (id : MsgId) → ask.call ≡ enqueue_call words 0
+    → entry_of ask index Persistent id ≡ plain_entry index ask.next id words.body
+entry_plain words ask index id is_call = ap (λ (call : EnqueueCall). entry_of (record ask { call = call }) index Persistent id) is_call
+
+pub insert_recorded : (words : EnqueueWords) (ask : EnqueueAsk) (held : IndexedSpace) (plan : Plan) → ask.call ≡ enqueue_call words 0 → IsPlainSpace held
+    → (insert : IsInsertOf ask held plan) → plan.moves ≡ move_of held (Added insert.queue.index ask.next words.body) ∷ []
+insert_recorded words ask held plan is_call plain insert =
+    let queue = insert.queue in
+    let id = next_id (space_of held) ask.next in
+    let named = indexed_named ask.call.queue in
+    let of_queue : queue.queue.qos ≡ Persistent = (All-contains IsPlainQueue held.queues queue plain (found_contained named held.queues queue insert.found)).qos in
+    let persistent : quality ask.call.qos queue.queue.qos ≡ Persistent = ap (λ (call : EnqueueCall). quality call.qos queue.queue.qos) is_call ∙ of_queue in
+    insert.moves ∙ ap (λ (qos : Qos). Insert (entry_of ask queue.index qos id) ∷ []) persistent
+    ∙ ap (λ e. Insert e ∷ []) (entry_plain words ask queue.index id is_call)
+
+abbrev pub arrival_of : MsgId → Arrival
+arrival_of id = record { epoch = id.epoch; number = id.number }
+
+pub removal_recorded : (ask : DequeueAsk) (held : IndexedSpace) (plan : Plan) → ask.call.peek ≡ false → IsOwn held
+    → (removal : IsRemovalOf ask held plan)
+    → (plan.moves ≡ move_of held (Gone (arrival_of removal.item.letter.id)) ∷ []) × (holds_arrival held (arrival_of removal.item.letter.id) ≡ true)
+removal_recorded ask held plan taken own removal =
+    let id = removal.item.letter.id in
+    let of_space = among_id (λ id. (id.site ≡ held.site) × (id.space ≡ held.number)) removal.item held own removal.within in
+    let same : id ≡ id_in held (arrival_of id) = λ i. record { site = of_space.0 i; space = of_space.1 i; epoch = id.epoch; number = id.number } in (
+      removal.moves ∙ ap (λ (peek : Bool). if peek then [] else Remove id ∷ []) taken ∙ (λ i. Remove (same i) ∷ []),
+      sym (λ i. list_any (indexed_holds (same i)) held.queues) ∙ removal.holds,
+    )
