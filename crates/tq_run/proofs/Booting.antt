@@ -30,7 +30,7 @@ use Rattle.tq_run.specs.Manager.{site_of, site_at, placed_in, IsBooted, IsOn, Is
 use Rattle.tq_run.specs.Output.{GivesText, GivesSome}
 use Rattle.tq_run.specs.Stops.{ImageStands, IsEither, AreOn, HasNoNewImage, IsAtLine, IsStopped}
 use Rattle.tq_run.proofs.FoundLemmas.{durable_at, image_at, image_bare, loaded_found, part_of_stands}
-use Rattle.tq_run.proofs.OfferedFiles.{file_kept, file_later, file_epochs}
+use Rattle.tq_spacefile.proofs.Files.{file_kept, file_later, file_epochs}
 use Rattle.tq_run.proofs.Attending.{same_found}
 use Rattle.tq_run.proofs.Stopping.{any_steps, other_step, first_device, one_line, longer, some_longer, at_next}
 

@@ -6,7 +6,6 @@ pub mod Flat
 pub mod Statuses
 pub mod Waiting
 pub mod Stopping
-mod OfferedFiles
 pub mod LoadLemmas
 pub mod SpaceMaking
 pub mod Booting

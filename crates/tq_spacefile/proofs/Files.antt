@@ -1,5 +1,5 @@
 -- A space on its device: what it depends on, and what a record more makes of it.
-use Rattle.std.proofs.Common.{◌≡◌, ◌⊎◌, inl, inr, ⊎_elim, ◌<◌, ◌≤◌, ℕ, ◌+◌, ◌&&◌, Bool, true, false, List, [], ◌∷◌, ◌++◌, length, get_or, drop, Option, None, Some, refl, sym, ap, subst, ◌∙◌, arith, length-take, length-drop}
+use Rattle.std.proofs.Common.{◌≡◌, ◌⊎◌, inl, inr, ⊎_elim, ◌<◌, ◌≤◌, ℕ, ◌+◌, ◌-◌, ◌&&◌, Bool, true, false, List, [], ◌∷◌, ◌++◌, length, get_or, drop, Option, None, Some, refl, sym, ap, subst, ◌∙◌, arith, length-take, length-drop}
 use Rattle.std.specs.Prelude.{nat_le, nat_lt, ◌==◌, if◌then◌else◌, codes}
 use Rattle.std.specs.Option.{option_map, option_and_then}
 use Rattle.std.specs.Str.{bytes_eq}
@@ -8,7 +8,8 @@ use Rattle.std.proofs.lemmas.Bool.Decides.{nat_tests}
 use Rattle.std.proofs.lemmas.Option.{none-some, same_Some}
 use Rattle.tq_field.specs.GatedLog.{end_of, log_reading}
 use Rattle.tq_gate.specs.Reading.{Content, content}
-use Rattle.tq_gate.specs.Log.{IsOpen, IsLog}
+use Rattle.tq_gate.specs.Log.{IsOpen, IsLog, free_in}
+use Rattle.tq_gate.specs.declared.log.GateLog.{GateLog}
 use Rattle.tq_gate.specs.declared.layout.Layout.{Layout}
 use Rattle.tq_gate.proofs.Elsewhere.{content_elsewhere}
 use Rattle.tq_gate.proofs.Readings.{end_of-push}
@@ -26,7 +27,7 @@ use Rattle.tq_spacefile.specs.declared.place.SpacePlace.{SpacePlace}
 use Rattle.tq_spacefile.specs.declared.file.SpaceFile.{SpaceFile}
 use Rattle.tq_spacefile.specs.Place.{space_end, IsPlace, log_layout}
 use Rattle.tq_spacefile.specs.Page.{are_limits, is_error}
-use Rattle.tq_spacefile.specs.File.{HasSpace, IsFormatted, IsFile, place_in, held_in, logged_in}
+use Rattle.tq_spacefile.specs.File.{HasSpace, IsFormatted, IsFile, place_in, held_in, logged_in, log_of}
 use Rattle.tq_spacefile.specs.Record.{with_record}
 use Rattle.tq_spacefile.proofs.Pages.{raw_space-run_at, is_first_page, page_tests_are}
 use Rattle.tq_spacefile.proofs.Logs.{content_with, content_some, log_reach}
@@ -188,6 +189,15 @@ file_kept f epoch old new size same is = record {
 
 pub file_later : (f : SpaceFile) (epoch later : ℕ) (image : List ℕ) → epoch ≤ later → IsFile f epoch image → IsFile f later image
 file_later f epoch later image le is = record { has = has_space_later (place_in f) epoch (held_in f) (logged_in f) image is.has later le; log = is.log }
+
+-- a file with the same place, space and log
+pub file_same : (f g : SpaceFile) (epoch : ℕ) (image : List ℕ) → place_in g ≡ place_in f → held_in g ≡ held_in f → log_of g ≡ log_of f → IsFile f epoch image → IsFile g epoch image
+file_same f g epoch image place held log is =
+    let logged : logged_in g ≡ logged_in f = ap (λ (p : SpacePlace). log_bytes p.pages - free_in (log_of g)) place ∙ ap (λ (l : GateLog). log_bytes f.place.pages - free_in l) log in
+    record {
+      has = subst (λ (p : SpacePlace). HasSpace p epoch (held_in g) (logged_in g) image) (sym place) (subst (λ (s : IndexedSpace). HasSpace (place_in f) epoch s (logged_in g) image) (sym held) (subst (λ n. HasSpace (place_in f) epoch (held_in f) n image) (sym logged) is.has));
+      log = record { content = is.log.content; log = subst (λ (l : GateLog). IsLog l is.log.content image) (sym log) is.log.log };
+    }
 
 pub file_epochs : (f : SpaceFile) (epoch : ℕ) (image : List ℕ) → IsFile f epoch image → HasEpochs epoch (held_in f)
 file_epochs f epoch image is = has_space_epochs (place_in f) epoch (held_in f) (logged_in f) image is.has

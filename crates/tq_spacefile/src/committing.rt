@@ -78,6 +78,7 @@ impl SpaceFile {
         ensures same_space { OnErr result (held_in self.new ≡ held_in self.old) }
         ensures same_log { OnErr result (logged_in self.new ≡ logged_in self.old) }
         ensures untouched { OnErr result ((result ≡ Err commit_error.Device → ⊥) → host.new ≡ host.old) }
+        ensures kept { OnErr result ((result ≡ Err commit_error.Device → ⊥) → (epoch : ℕ) (image : List ℕ) → IsFile self.old epoch image → IsFile self.new epoch image) }
 
         // What is read, and each image, has the record.
         ensures done { OnOk result (H.tells.reads → (epoch : ℕ) (r : SpaceRecord) → IsRecorded (held_in self.old) plan r → can_follow epoch (held_in self.old) r ≡ true

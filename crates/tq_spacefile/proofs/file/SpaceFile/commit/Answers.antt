@@ -7,11 +7,15 @@ use Rattle.tq_space.specs.Applied.{plan_applied}
 use Rattle.tq_spacefile.specs.Payload.{IsPayloadOf}
 use Rattle.tq_spacefile.specs.Record.{with_record}
 use Rattle.tq_spacefile.specs.File.{held_in, logged_in}
+use Rattle.tq_spacefile.proofs.Files.{file_same}
 use Rattle.tq_spacefile.proofs.Commits.{moved_own, recorded_applied, not_begun, have_log, stops, logged_more, logged_read, logged_files}
 use Rattle.tq_spacefile.proofs.file.SpaceFile.commit.Goals as goal
 
 pub returns-in_err-payload-clause-stop : goal.returns-in_err-payload-clause-stop
 returns-in_err-payload-clause-stop g c = λ epoch r is can are. not_begun c.args.self.now epoch r (g.H.Host.view c.args.host.now) are
+
+pub returns-in_err-payload-clause-kept : goal.returns-in_err-payload-clause-kept
+returns-in_err-payload-clause-kept g c = λ other epoch image is. file_same c.args.self.now _ epoch image refl c.prepare.ensures.held refl is
 
 pub returns-in_err-append-clause-stop : goal.returns-in_err-append-clause-stop
 returns-in_err-append-clause-stop g c = λ epoch r is can are.
