@@ -434,6 +434,8 @@ impl Space {
         requires ready { 1 ≤ self.old.ready }
         requires can { CanReplace change.now self.old.held }
         ensures held { self.new.held ≡ moved (SpaceMove.Replace change.now) self.old.held }
+        ensures messages { messages_held (space_of self.new.held) ≡ messages_held (space_of self.old.held) }
+        ensures pages { pages_held (space_of self.new.held) ≡ pages_held (space_of self.old.held) }
         ensures ready { self.old.ready ≤ self.new.ready + 1 }
     {
         self.shelf.replace(change);
