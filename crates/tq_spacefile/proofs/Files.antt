@@ -8,7 +8,8 @@ use Rattle.std.proofs.lemmas.Bool.Decides.{nat_tests}
 use Rattle.std.proofs.lemmas.Option.{none-some, same_Some}
 use Rattle.tq_field.specs.GatedLog.{end_of, log_reading}
 use Rattle.tq_gate.specs.Reading.{Content, content}
-use Rattle.tq_gate.specs.Log.{IsOpen, IsLog, free_in}
+use Rattle.tq_gate.specs.Log.{IsOpen, IsLog, IsSameLog, free_in}
+use Rattle.tq_gate.specs.Layout.{log_length}
 use Rattle.tq_gate.specs.declared.log.GateLog.{GateLog}
 use Rattle.tq_gate.specs.declared.layout.Layout.{Layout}
 use Rattle.tq_gate.proofs.Elsewhere.{content_elsewhere}
@@ -191,12 +192,19 @@ pub file_later : (f : SpaceFile) (epoch later : ℕ) (image : List ℕ) → epoc
 file_later f epoch later image le is = record { has = has_space_later (place_in f) epoch (held_in f) (logged_in f) image is.has later le; log = is.log }
 
 -- a file with the same place, space and log
-pub file_same : (f g : SpaceFile) (epoch : ℕ) (image : List ℕ) → place_in g ≡ place_in f → held_in g ≡ held_in f → log_of g ≡ log_of f → IsFile f epoch image → IsFile g epoch image
-file_same f g epoch image place held log is =
-    let logged : logged_in g ≡ logged_in f = ap (λ (p : SpacePlace). log_bytes p.pages - free_in (log_of g)) place ∙ ap (λ (l : GateLog). log_bytes f.place.pages - free_in l) log in
+pub file_same : (f g : SpaceFile) (epoch : ℕ) (image : List ℕ) → place_in g ≡ place_in f → held_in g ≡ held_in f → IsSameLog (log_of f) (log_of g) → IsFile f epoch image → IsFile g epoch image
+file_same f g epoch image place held same is =
+    let logged : logged_in g ≡ logged_in f =
+    ap (λ (p : SpacePlace). log_bytes p.pages - free_in (log_of g)) place
+    ∙ ap (λ (l : Layout). log_bytes f.place.pages - (log_length l - g.log.end)) same.layout
+    ∙ ap (λ e. log_bytes f.place.pages - (log_length f.log.layout - e)) same.end in
     record {
       has = subst (λ (p : SpacePlace). HasSpace p epoch (held_in g) (logged_in g) image) (sym place) (subst (λ (s : IndexedSpace). HasSpace (place_in f) epoch s (logged_in g) image) (sym held) (subst (λ n. HasSpace (place_in f) epoch (held_in f) n image) (sym logged) is.has));
-      log = record { content = is.log.content; log = subst (λ (l : GateLog). IsLog l is.log.content image) (sym log) is.log.log };
+      log = record {
+        content = is.log.content;
+        log = subst (λ (l : Layout). IsOpen l g.log.area g.log.end is.log.content image) (sym same.layout)
+            (subst (λ a. IsOpen f.log.layout a g.log.end is.log.content image) (sym same.area) (subst (λ e. IsOpen f.log.layout f.log.area e is.log.content image) (sym same.end) is.log.log));
+      };
     }
 
 pub file_epochs : (f : SpaceFile) (epoch : ℕ) (image : List ℕ) → IsFile f epoch image → HasEpochs epoch (held_in f)

@@ -1,8 +1,9 @@
-use Rattle.std.proofs.Common.{◌≡◌, ◌+◌, ◌-◌, List, ℕ, length, refl, sym, ap, subst, ◌∙◌}
+use Rattle.std.proofs.Common.{◌≡◌, ◌+◌, ◌-◌, List, ℕ, Result, Ok, Err, OnErr, length, refl, sym, ap, subst, ◌∙◌}
 use Rattle.tq_model.specs.Plain.{IsOwn, IsPlainSpace}
 use Rattle.tq_model.specs.SpaceForm.{log_bytes, spelt}
 use Rattle.tq_model.proofs.RecordMoves.{moved_plain}
-use Rattle.tq_gate.specs.Log.{free_in}
+use Rattle.tq_gate.specs.Log.{free_in, IsSameLog}
+use Rattle.tq_host.specs.declared.host.Device.{Device}
 use Rattle.tq_space.specs.Applied.{plan_applied}
 use Rattle.tq_spacefile.specs.Payload.{IsPayloadOf}
 use Rattle.tq_spacefile.specs.Record.{with_record}
@@ -14,8 +15,17 @@ use Rattle.tq_spacefile.proofs.file.SpaceFile.commit.Goals as goal
 pub returns-in_err-payload-clause-stop : goal.returns-in_err-payload-clause-stop
 returns-in_err-payload-clause-stop g c = λ epoch r is can are. not_begun c.args.self.now epoch r (g.H.Host.view c.args.host.now) are
 
+at_err : {T E : Type 0} (r : Result T E) (A : Type 0) → A → OnErr r A
+at_err (Ok x) A a = tt
+at_err (Err e) A a = a
+
 pub returns-in_err-payload-clause-kept : goal.returns-in_err-payload-clause-kept
-returns-in_err-payload-clause-kept g c = λ other epoch image is. file_same c.args.self.now _ epoch image refl c.prepare.ensures.held refl is
+returns-in_err-payload-clause-kept g c = at_err c.from_residual.result _ (λ other epoch image is. file_same c.args.self.now _ epoch image refl c.prepare.ensures.held (record { layout = refl; area = refl; end = refl }) is)
+
+pub returns-in_err-append-clause-kept : goal.returns-in_err-append-clause-kept
+returns-in_err-append-clause-kept g c =
+    let same : IsSameLog c.args.self.now.log c.append.new.self = subst (λ (r : Result (Unit {0}) Device). OnErr r (IsSameLog c.args.self.now.log c.append.new.self)) c.in_err-append.was c.append.ensures.same in
+    at_err c.from_residual-in_err-append.result _ (λ other epoch image is. file_same c.args.self.now _ epoch image refl c.prepare.ensures.held same is)
 
 pub returns-in_err-append-clause-stop : goal.returns-in_err-append-clause-stop
 returns-in_err-append-clause-stop g c = λ epoch r is can are.
