@@ -30,7 +30,8 @@ use Rattle.tq_device.specs.declared.content.NamedSpace.{NamedSpace}
 use Rattle.tq_device.specs.Content.{Stands, IsAnyStep, part_of}
 use Rattle.tq_spacefile.specs.declared.place.SpacePlace.{SpacePlace}
 use Rattle.tq_spacefile.specs.declared.file.SpaceFile.{SpaceFile}
-use Rattle.tq_spacefile.specs.File.{place_in, held_in, logged_in, room_for, with_record, HasSpace, IsFile, AreFile, IsSameButSpace}
+use Rattle.tq_spacefile.specs.File.{place_in, held_in, logged_in, room_for, HasSpace, IsFile, AreFile, IsSameButSpace}
+use Rattle.tq_spacefile.specs.Record.{with_record}
 use Rattle.tq_run.specs.declared.manager.Manager.{Manager}
 use Rattle.tq_run.specs.Manager.{site_of, site_with, site_at, placed_at, placed_of, placed_in, place_of, IsFileOf, IsTogether, IsFit, IsSpaceOn, IsFileOn, IsDeviceOn, IsContentOn, IsOn}
 use Rattle.tq_run.specs.Stops.{ImageStands, IsEither, AreOn}

@@ -44,7 +44,8 @@ use Rattle.tq_space.specs.Planned.{IsPlanOf, IsInsertOf, IsRemovalOf, IsCreation
 use Rattle.tq_space.proofs.PlanMoves.{arrival_of, insert_recorded, removal_recorded}
 use Rattle.tq_spacefile.specs.declared.place.SpacePlace.{SpacePlace}
 use Rattle.tq_spacefile.specs.declared.file.SpaceFile.{SpaceFile}
-use Rattle.tq_spacefile.specs.File.{place_in, held_in, logged_in, HasSpace, AreFile, IsSameButSpace, IsRecorded, with_record, room_for, IsOldOrLogged}
+use Rattle.tq_spacefile.specs.File.{place_in, held_in, logged_in, HasSpace, AreFile, IsSameButSpace, room_for, IsOldOrLogged}
+use Rattle.tq_spacefile.specs.Record.{IsRecorded, with_record}
 use Rattle.tq_run.specs.declared.calls.Called.{Called}
 use Rattle.tq_run.specs.declared.calls.Called.TheVariants.{Refused, Granted}
 use Rattle.tq_run.specs.Calls.{full_log, IsRecordFor, IsCalled, IsGrantedPlan, IsSameOrChanged, queue_refusal_in}

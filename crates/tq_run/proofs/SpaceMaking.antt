@@ -29,7 +29,8 @@ use Rattle.tq_device.specs.declared.content.DeviceContent.{DeviceContent}
 use Rattle.tq_device.specs.declared.content.NamedSpace.{NamedSpace}
 use Rattle.tq_device.specs.Content.{Stands, part_of, entered, IsLonger, IsSameButTable, IsOldOrEntered, IsAny, IsAnyStep}
 use Rattle.tq_spacefile.specs.declared.file.SpaceFile.{SpaceFile}
-use Rattle.tq_spacefile.specs.File.{IsFormatted, IsSameButSpace, HasSpace, IsFile, space_end, place_in, held_in, logged_in}
+use Rattle.tq_spacefile.specs.File.{IsFormatted, IsSameButSpace, HasSpace, IsFile, place_in, held_in, logged_in}
+use Rattle.tq_spacefile.specs.Place.{space_end}
 use Rattle.tq_run.specs.declared.manager.Manager.{Manager}
 use Rattle.tq_run.specs.Manager.{site_of, site_with, site_at, placed_at, placed_in, place_of, IsContentOn}
 use Rattle.tq_run.specs.Spaces.{IsShape, IsAdmitted, HasNewSpace, IsNewSpaceOn, IsBareOrNew}

@@ -16,7 +16,8 @@ use Rattle.tq_model.specs.EnqueueStep.{CallOutcome, enqueue_step, enqueue_refusa
 use Rattle.tq_model.specs.DequeueStep.{dequeue_step, dequeue_refusal}
 use Rattle.tq_model.specs.Step.{has_queue, enqueue_call, dequeue_call}
 use Rattle.tq_spacefile.specs.declared.file.SpaceFile.{SpaceFile}
-use Rattle.tq_spacefile.specs.File.{place_in, held_in, logged_in, with_record, room_for, HasSpace}
+use Rattle.tq_spacefile.specs.File.{place_in, held_in, logged_in, room_for, HasSpace}
+use Rattle.tq_spacefile.specs.Record.{with_record}
 use Rattle.tq_run.specs.declared.calls.Called.{Called}
 use Rattle.tq_run.specs.declared.calls.Called.TheVariants.{Refused, Granted}
 

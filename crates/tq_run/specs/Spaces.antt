@@ -8,7 +8,8 @@ use Rattle.tq_model.specs.Step.{space_refusal, field_refused, shape_asked}
 use Rattle.tq_model.specs.Parts.{IsPart}
 use Rattle.tq_device.specs.declared.content.DeviceContent.{DeviceContent}
 use Rattle.tq_device.specs.Content.{Stands, part_of, entered}
-use Rattle.tq_spacefile.specs.File.{IsFormatted, space_end}
+use Rattle.tq_spacefile.specs.File.{IsFormatted}
+use Rattle.tq_spacefile.specs.Place.{space_end}
 use Rattle.tq_run.specs.declared.manager.Manager.{Manager}
 use Rattle.tq_run.specs.Manager.{site_of}
 

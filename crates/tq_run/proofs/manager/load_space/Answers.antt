@@ -4,7 +4,8 @@ use Rattle.tq_spacefile.specs.declared.place.SpacePlace.{SpacePlace}
 use Rattle.tq_spacefile.specs.declared.file.SpaceFile.{SpaceFile}
 use Rattle.tq_spacefile.specs.declared.fault.FileError.{FileError}
 use Rattle.tq_spacefile.specs.declared.fault.FileError.TheVariants as files
-use Rattle.tq_spacefile.specs.File.{IsFile, place_in, has_space, space_end}
+use Rattle.tq_spacefile.specs.File.{IsFile, place_in, has_space}
+use Rattle.tq_spacefile.specs.Place.{space_end}
 use Rattle.tq_run.specs.declared.status.Stop.{Stop}
 use Rattle.tq_run.specs.declared.status.Stop.TheVariants as stops
 use Rattle.tq_run.specs.Counts.{StopCounts}

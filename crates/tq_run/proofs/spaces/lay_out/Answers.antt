@@ -2,7 +2,8 @@ use Rattle.std.proofs.Common.{◌≤◌, inr, length, arith}
 use Rattle.std.proofs.lemmas.Result.{IfOk-at_ok}
 use Rattle.tq_host.proofs.Within.{in_a_row}
 use Rattle.tq_device.specs.Content.{IsAnyStep}
-use Rattle.tq_spacefile.specs.File.{IsFormatted, space_end}
+use Rattle.tq_spacefile.specs.File.{IsFormatted}
+use Rattle.tq_spacefile.specs.Place.{space_end}
 use Rattle.tq_run.specs.Spaces.{IsBareOrNew}
 use Rattle.tq_run.proofs.CountLemmas.{of_ok, ok_before, on_mapped}
 use Rattle.tq_device.proofs.Offered.{below_stands}
