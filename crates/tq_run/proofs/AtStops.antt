@@ -12,6 +12,7 @@ use Rattle.tq_model.specs.Text.{line_text}
 use Rattle.tq_model.specs.Grammar.{line_request, script_requests}
 use Rattle.tq_model.specs.Reading.{site_found, reading, combined}
 use Rattle.tq_model.specs.Faulty.{Condition, Up, Down, Trace, Turn, Progress, count_before, count_at, rose_at, turn, steady_turn, failing_turn, boot_turn, advance, after, beginning, machine_after, StandFor, StandForState}
+use Rattle.tq_model.proofs.Images.{found_durable}
 use Rattle.tq_model.proofs.LineText.{length-line_text}
 use Rattle.tq_run.specs.Output.{GivesSome}
 use Rattle.tq_run.specs.Serial.{site_after, lines_text}
@@ -83,7 +84,7 @@ told_in base (s ∷ stamps) (suc k) end all lt = told_in base stamps k end (λ i
 
 -- up or down, the device stands for the site after the line
 stand_after : (b : Bool) (images : ℕ → List ℕ) (s : Site) (r : Request) → (r ≡ Boot → can_boot s ≡ true) → ImageStands (step s r).site (images 0) → StandForState 1 images (cond b (failing_turn s r) (steady_turn s r)).condition
-stand_after true images s r fit is = (1, durable (step s r).site, omega arith, refl, is)
+stand_after true images s r fit is = (1, durable (step s r).site, omega arith, refl, is ∙ ap (λ (x : Site). Some x) (sym (found_durable (λ d. images 0) (durable (step s r).site) is)))
 stand_after false images s r fit is = subst (λ (t : Turn). StandForState 1 images t.condition) (sym (made_turn s r fit)) is
 
 module _ (start now : View) (found : Site) (some : GivesSome start now) (raisable : can_boot found ≡ true) where
