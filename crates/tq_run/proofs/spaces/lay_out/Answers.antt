@@ -22,7 +22,10 @@ returns-in_err-map_err-2-clause-stop g c = λ stand.
     let d = c.args.content.now in
     let name = c.args.name in
     let shape = c.args.shape.now in
-    still_bare d name shape _ _ (preparing d name shape _ _ _ c.requires.bare stand c.grow.ensures.stop c.format.ensures.stop)
+    let before = ok_before _ _ _ _ c.map_err.ensures.cases c.in_ok-map_err.was in
+    let grown = of_ok c.grow.result _ _ before c.grow.ensures.done in
+    let long = settled_all (λ image. space_end shape.pages ≤ length image) _ (g.met.H.Host.lawful c.grow.new.host) (of_ok c.grow.result _ _ before c.grow.ensures.settled) (λ t. omega (arith, (grown t).1, c.clusters_for.ensures, c.from.ensures)) in
+    still_bare d name shape _ _ (preparing d name shape _ _ _ c.requires.bare stand c.grow.ensures.stop (c.format.ensures.stop long))
 
 pub enter-requires-clause-holds : goal.enter-requires-clause-holds
 enter-requires-clause-holds g c = λ t.
@@ -56,10 +59,12 @@ returns-clause-stop g c = λ stand.
     let d = c.args.content.now in
     let name = c.args.name in
     let shape = c.args.shape.now in
-    let both = preparing d name shape _ _ _ c.requires.bare stand c.grow.ensures.stop c.format.ensures.stop in
     let old = g.H.Host.view c.args.host.now in
+    let grown = ok_before _ _ _ _ c.map_err.ensures.cases c.in_ok-map_err.was in
     let before = ok_before _ _ _ _ c.map_err-2.ensures.cases c.in_ok-map_err-2.was in
-    let first = of_ok c.grow.result _ _ (ok_before _ _ _ _ c.map_err.ensures.cases c.in_ok-map_err.was) c.grow.ensures.done in
+    let first = of_ok c.grow.result _ _ grown c.grow.ensures.done in
+    let long = settled_all (λ image. space_end shape.pages ≤ length image) _ (g.met.H.Host.lawful c.grow.new.host) (of_ok c.grow.result _ _ grown c.grow.ensures.settled) (λ t. omega (arith, (first t).1, c.clusters_for.ensures, c.from.ensures)) in
+    let both = preparing d name shape _ _ _ c.requires.bare stand c.grow.ensures.stop (c.format.ensures.stop long) in
     let laid = of_ok c.format.result _ _ before c.format.ensures.kept in
     let lawful = g.met.H.Host.lawful c.format.new.host in
     let settled = of_ok c.format.result _ _ before c.format.ensures.settled in
