@@ -33,7 +33,7 @@ use Rattle.tq_model.specs.Space.{Space}
 use Rattle.tq_model.specs.Moves.{IndexedSpace, space_of, has_index, moved_by, purged_of}
 use Rattle.tq_model.specs.Plain.{IsPlainSpace, IsOwn, IsBefore, IsNewer}
 use Rattle.tq_model.specs.Reading.{Replayed, space_start, log_start}
-use Rattle.tq_model.specs.SpaceForm.{raw_space, shape_of, log_bytes, empty_space, replayed, spelt, id_in, plain_entry, move_of, holds_arrival, holds_name, can_follow, added_length, gone_length, made_length}
+use Rattle.tq_model.specs.SpaceForm.{raw_space, shape_of, log_bytes, empty_space, replayed, spelt, id_in, plain_entry, move_of, holds_arrival, holds_name, can_follow, added_length, gone_length, made_length, longest_body}
 use Rattle.tq_model.specs.EnqueueStep.{CallOutcome}
 use Rattle.tq_model.specs.Step.{enqueue_call, dequeue_call, with_queue}
 use Rattle.tq_model.proofs.RecordMoves.{ids_gone, ids_made, newer_is_new, newer_next, queue_space, has_queue_is, queues_counted}
@@ -45,6 +45,7 @@ use Rattle.tq_space.proofs.PlanMoves.{arrival_of, insert_recorded, removal_recor
 use Rattle.tq_spacefile.specs.declared.place.SpacePlace.{SpacePlace}
 use Rattle.tq_spacefile.specs.declared.file.SpaceFile.{SpaceFile}
 use Rattle.tq_spacefile.specs.File.{place_in, held_in, logged_in, HasSpace, AreFile, IsSameButSpace, room_for, IsOldOrLogged}
+use Rattle.tq_spacefile.specs.Payload.{IsShort}
 use Rattle.tq_spacefile.specs.Record.{IsRecorded, with_record}
 use Rattle.tq_run.specs.declared.calls.Called.{Called}
 use Rattle.tq_run.specs.declared.calls.Called.TheVariants.{Refused, Granted}
@@ -111,7 +112,7 @@ pub record IsFreePlan (s : IndexedSpace) (size : ℕ) (t : Space) (plan : Plan) 
 
 -- the same moves, with or without the answer
 same_recorded : (s : IndexedSpace) (plan other : Plan) (r : SpaceRecord) → other.purge ≡ plan.purge → other.moves ≡ plan.moves → IsRecorded s plan r → IsRecorded s other r
-same_recorded s plan other r purge moves is = record { purge = purge ∙ is.purge; moves = moves ∙ is.moves; can = is.can }
+same_recorded s plan other r purge moves is = record { purge = purge ∙ is.purge; moves = moves ∙ is.moves; can = is.can; short = is.short }
 
 -- a plan of the step's, for a space and a call that are known
 pub meets_known : {C : Type 0} (step : Space → C → CallOutcome) (refusal : Space → C → Option CallAnswer) (held s : IndexedSpace) (call known : C) (plan : Plan) → held ≡ s → call ≡ known
@@ -121,11 +122,12 @@ meets_known {C} step refusal held s call known plan space is meets =
     (subst (λ (x : C). IsPlanOf (step (space_of held) x) held plan × (refusal (space_of held) x ≡ None)) is meets)
 
 module _ (outcome : CallOutcome) (s : IndexedSpace) (plan : Plan) (r : SpaceRecord) (purge : plan.purge ≡ []) (moves : plan.moves ≡ move_of s r ∷ []) (meets : IsPlanOf outcome s plan) where
-  one_recorded : IsRecorded s plan r
-  one_recorded = record {
+  one_recorded : IsShort r → IsRecorded s plan r
+  one_recorded short = record {
     purge = purge;
     moves = moves;
     can = (subst (λ (ms : List SpaceMove). CanMoveBy ms s) moves (subst (λ (ids : List MsgId). CanMoveBy plan.moves (purged_of ids s)) purge meets.can)).0;
+    short = short;
   }
 
   one_space : space_of (with_record r s) ≡ outcome.space
@@ -145,7 +147,7 @@ made_is index name = simp (length-append {A = ℕ}, length-digits) (omega arith)
 -- ---- an enqueue
 
 module _ (words : EnqueueWords) (ask : EnqueueAsk) (outcome : CallOutcome) (s : IndexedSpace) (plan : Plan) (is_call : ask.call ≡ enqueue_call words 0) (plain : IsPlainSpace s)
-    (insert : IsInsertOf ask s plan) (meets : IsPlanOf outcome s plan) where
+    (short : length words.body ≤ longest_body) (insert : IsInsertOf ask s plan) (meets : IsPlanOf outcome s plan) where
   abbrev added : SpaceRecord
   added = Added insert.queue.index ask.next words.body
 
@@ -153,7 +155,7 @@ module _ (words : EnqueueWords) (ask : EnqueueAsk) (outcome : CallOutcome) (s : 
   moves = insert_recorded words ask s plan is_call plain insert
 
   recorded : IsRecorded s plan added
-  recorded = one_recorded outcome s plan added insert.purge moves meets
+  recorded = one_recorded outcome s plan added insert.purge moves meets short
 
   follows : 1 ≤ ask.next.epoch → IsNewer ask.next.epoch ask.next.number s → can_follow ask.next.epoch s added ≡ true
   follows some newer =
@@ -192,7 +194,7 @@ module _ (words : DequeueWords) (ask : DequeueAsk) (outcome : CallOutcome) (s : 
   pub dequeue_planned : (other : Plan) → other.purge ≡ plan.purge → other.moves ≡ plan.moves → IsFreePlan s gone_length outcome.space other
   dequeue_planned other same_purge same_moves = record {
     r = gone;
-    recorded = same_recorded s plan other gone same_purge same_moves (one_recorded outcome s plan gone removal.purge said.0 meets);
+    recorded = same_recorded s plan other gone same_purge same_moves (one_recorded outcome s plan gone removal.purge said.0 meets tt);
     is = λ epoch number. record {
       length_is = gone_is (arrival_of removal.item.letter.id);
       space = one_space outcome s plan gone removal.purge said.0 meets;
@@ -217,7 +219,7 @@ module _ (name : List ℕ) (s : IndexedSpace) (plan : Plan) (creation : IsCreati
   pub queue_planned : IsFreePlan s (made_length name) (with_queue name (space_of s)) plan
   queue_planned = record {
     r = made;
-    recorded = record { purge = creation.purge; moves = creation.moves; can = tt };
+    recorded = record { purge = creation.purge; moves = creation.moves; can = tt; short = tt };
     is = λ epoch number. record {
       length_is = made_is creation.index name;
       space = queue_space creation.index name s unused;

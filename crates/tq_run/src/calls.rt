@@ -15,7 +15,6 @@ ghost use Rattle.tq_run.specs.Stops.{AreOn, IsEither};
 ghost use Rattle.tq_run.specs.Manager.{site_of, IsOn, IsFit};
 ghost use Rattle.tq_run.specs.Calls.{IsCalled, IsGrantedPlan, IsSameOrChanged, enqueued_in, enqueue_refusal_in, dequeued_in, dequeue_refusal_in};
 
-use tq_spacefile::{CommitError, SpaceFile};
 use crate::manager::Manager;
 use crate::spaces::is_named;
 use crate::status::Stop;
@@ -26,6 +25,7 @@ use tq_model::{
     EnqueueWords, Place,
 };
 use tq_space::{Plan, Refusal};
+use tq_spacefile::{CommitError, SpaceFile};
 use tq_types::{Arrival, AskedQos};
 
 // The most bytes of a body.

@@ -187,9 +187,7 @@ fn create_device<H: Host>(
         file: None,
         next: 0,
     };
-    Ok(Answer::Device(DeviceAnswer::Created(capacity_of(
-        &content, &None,
-    ))))
+    Ok(Answer::Device(DeviceAnswer::Created(capacity_of(&content, &None))))
 }
 
 /// Does what is asked of a device.

@@ -13,7 +13,6 @@ ghost use Rattle.tq_run.specs.Manager.{site_of, IsOn, IsFit};
 ghost use Rattle.tq_run.specs.Calls.{IsCalled, IsSameOrChanged, queue_refusal_in};
 
 use crate::calls::{Called, grant};
-use tq_spacefile::SpaceFile;
 use crate::manager::Manager;
 use crate::spaces::is_named;
 use crate::status::Stop;
@@ -21,6 +20,7 @@ use std::alloc::Global;
 use tq_host::Host;
 use tq_model::{Answer, QueueCreation, SpaceAnswer};
 use tq_space::QueueRefusal;
+use tq_spacefile::SpaceFile;
 use tq_types::Name;
 
 // Makes a queue of a space.

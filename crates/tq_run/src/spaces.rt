@@ -220,10 +220,7 @@ fn make_space<H: Host>(
         file: Some(SpaceFile::new(alloc, &place, &shape)),
         next: manager.next,
     };
-    Ok(Answer::Space(SpaceAnswer::Created(NewSpace {
-        number,
-        pages,
-    })))
+    Ok(Answer::Space(SpaceAnswer::Created(NewSpace { number, pages })))
 }
 
 // Makes a space, or says the first reason not to.

@@ -32,7 +32,7 @@ planned : (g : Over) (c : After-take_answer-answer g)
 planned g c =
     let f = c.args.file.now in
     let ask : EnqueueAsk = record { call = c.enqueue_call.result; clock = 0; owner = None; transactional = false; heuristic = 0; next = c.args.next } in
-    enqueue_planned c.args.words ask (enqueued_in f c.args.words c.args.next) (held_in f) c.in-Ok.plan c.enqueue_call.ensures f.plain
+    enqueue_planned c.args.words ask (enqueued_in f c.args.words c.args.next) (held_in f) c.in-Ok.plan c.enqueue_call.ensures f.plain c.requires.checked
     (subst (λ (x : IndexedSpace). IsInsertOf ask x c.in-Ok.plan) c.space.ensures c.in-Ok.ensures.moves) (meets g c).0
     c.take_answer-answer.new.plan c.take_answer-answer.ensures.purge c.take_answer-answer.ensures.moves
 
