@@ -285,7 +285,7 @@ enqueue_in w s None = refused s answers.NoEntry
 enqueue_in w s (Some p) =
     let call = enqueue_call w s.clock in
     unless (call_refusal (enqueue_refusal p.space call s.clock) p (added_length w.body)) s
-      (with_next_number (called w.space (enqueue_step p.space call s.clock (next_arrival s)) (added_length w.body) p s))
+    (with_next_number (called w.space (enqueue_step p.space call s.clock (next_arrival s)) (added_length w.body) p s))
 
 abbrev pub enqueue : EnqueueWords → Site → Outcome
 enqueue w s = if nat_lt longest_body (length w.body) then refused s (answers.Invalid (length w.body)) else enqueue_in w s (space_named w.space s)
