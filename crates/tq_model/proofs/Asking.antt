@@ -4,23 +4,20 @@ use Rattle.std.specs.Prelude.{MatchOption, is_some, nat_le, nat_lt, length}
 use Rattle.std.specs.Option.{option_or}
 use denote.Ref.{Bor}
 use Rattle.tq_types.specs.declared.identifiers.Arrival.{Arrival}
-use Rattle.tq_model.specs.declared.answer.Answer.{Answer}
 use Rattle.tq_model.specs.declared.answer.Answer.TheVariants as answers
 use Rattle.tq_model.specs.declared.answer.DeviceAnswer.TheVariants.{NoDevice}
 use Rattle.tq_model.specs.declared.answer.SpaceAnswer.TheVariants as spaces
 use Rattle.tq_model.specs.declared.calls.CallAnswer.{CallAnswer}
-use Rattle.tq_model.specs.declared.calls.EnqueueWords.{EnqueueWords}
 use Rattle.tq_model.specs.declared.calls.DequeueWords.{DequeueWords}
 use Rattle.tq_model.specs.declared.request.QueueCreation.{QueueCreation}
 use Rattle.tq_model.specs.declared.request.SpaceCreation.{SpaceCreation}
 use Rattle.tq_model.specs.declared.machine.asked.Asked.{Asked}
-use Rattle.tq_model.specs.declared.machine.asked.Asked.TheVariants.{Queue, Enqueue, Dequeue}
-use Rattle.tq_model.specs.SpaceForm.{added_length, gone_length, made_length}
-use Rattle.tq_model.specs.EnqueueStep.{enqueue_refusal}
+use Rattle.tq_model.specs.declared.machine.asked.Asked.TheVariants.{Queue, Dequeue}
+use Rattle.tq_model.specs.SpaceForm.{gone_length, made_length}
 use Rattle.tq_model.specs.DequeueStep.{dequeue_refusal}
 use Rattle.tq_model.specs.Site.{Site, Volume, Placed, has_name, site_spaces, space_named, with_space, volume_of}
-use Rattle.tq_model.specs.Step.{Outcome, unless, has_queue, log_refusal, call_refusal, queue_refusal, create_queue, create_queue_in, enqueue_in, dequeue, dequeue_in, enqueue_call, dequeue_call, logged_with, space_refusal, on_volume_refusal}
-use Rattle.tq_model.specs.Asked.{payload_length, space_name, space_after, placed_after, refusal_of, numbered, granted_in, asked_in, asked_step}
+use Rattle.tq_model.specs.Step.{Outcome, unless, has_queue, log_refusal, call_refusal, queue_refusal, create_queue, create_queue_in, dequeue, dequeue_in, dequeue_call, logged_with, space_refusal, on_volume_refusal}
+use Rattle.tq_model.specs.Asked.{payload_length, space_name, space_after, placed_after, refusal_of, granted_in, asked_in, asked_step}
 use Rattle.tq_model.specs.Tables.{AreSound, entry_of, entry_changed}
 use Rattle.tq_model.proofs.Sites.{devices-changed, changed-alike, find-passes}
 
@@ -47,15 +44,6 @@ queue-asked c s = asked (space_named c.now.space s)
     asked : (o : Option Placed) → create_queue_in c.now s o ≡ asked_in (Queue c) s o
     asked None = refl
     asked (Some p) = (λ i. unless (queue-refused c s.clock p i) s (same-number (granted_in (Queue c) s p) i))
-
-pub enqueue-asked : (w : Bor EnqueueWords) (s : Site) → enqueue_in w.now s (space_named w.now.space s) ≡ asked_step (Enqueue w) s
-enqueue-asked w s = asked (space_named w.now.space s)
-  where
-    asked : (o : Option Placed) → enqueue_in w.now s o ≡ asked_in (Enqueue w) s o
-    asked None = refl
-    asked (Some p) =
-        ap (λ (r : Option Answer). unless r s (numbered (Enqueue w) (granted_in (Enqueue w) s p)))
-        (call-refused (enqueue_refusal p.space (enqueue_call w.now s.clock) s.clock) p (added_length w.now.body))
 
 pub dequeue-asked : (w : Bor DequeueWords) (s : Site) → dequeue w.now s ≡ asked_step (Dequeue w) s
 dequeue-asked w s = asked (space_named w.now.space s)

@@ -1,20 +1,18 @@
 -- From the parts of an image to its reading, and to the site for which one device stands.
 use Rattle.std.proofs.Common.{◌≡◌, ◌<◌, ◌≤◌, ℕ, ◌+◌, ◌*◌, List, [], ◌∷◌, ◌++◌, refl, sym, ◌∙◌, ap, subst, arith, Option, Some, None, Bool, true, false, length, cond}
-use Rattle.std.specs.Prelude.{◌==◌, nat_lt, ◌&&◌, if◌then◌else◌, option_map, is_some, replicate}
+use Rattle.std.specs.Prelude.{◌==◌, nat_lt, ◌&&◌, option_map, is_some}
 use Rattle.std.specs.Option.{option_and_then}
-use Rattle.std.specs.List.{list_all}
 use Rattle.std.proofs.lemmas.Bool.Decides.{nat_tests}
 use Rattle.std.proofs.lemmas.List.Folds.{list_all-append}
-use Rattle.tq_field.specs.GatedLog.{end_of}
 use Rattle.tq_model.specs.Space.{Space, crashed}
-use Rattle.tq_model.specs.Moves.{IndexedSpace, space_of}
+use Rattle.tq_model.specs.Moves.{IndexedSpace}
 use Rattle.tq_model.specs.Plain.{IsPlainSpace}
 use Rattle.tq_model.specs.SpaceForm.{raw_space, shape_of, empty_space, replayed}
 use Rattle.tq_model.proofs.RecordMoves.{crashed_plain}
 use Rattle.tq_model.proofs.Replays.{replayed_plain, empty_plain}
-use Rattle.tq_model.specs.Site.{Site, Volume, Placed, durable, table_with}
+use Rattle.tq_model.specs.Site.{Site, Placed, durable}
 use Rattle.tq_model.specs.Parts.{IsPart}
-use Rattle.tq_model.specs.Reading.{Test, Content, Reading, Blank, Holds, Damaged, reading, is_whole, content_of, content_with, site_read, site_found, combined, goes_with, DevicePart, NamedSpace, device_part, device_tests, space_tests, page_tests, hold_all, replayed_in, placed_as, placed_in, space_start, log_start, Replayed, test, space_in, payloads_in, epoch_bound}
+use Rattle.tq_model.specs.Reading.{Test, Content, Reading, Blank, Holds, Damaged, reading, is_whole, content_of, content_with, site_read, site_found, combined, DevicePart, NamedSpace, device_part, device_tests, space_tests, page_tests, hold_all, replayed_in, placed_as, placed_in, space_start, log_start, Replayed, test, space_in, payloads_in, epoch_bound}
 
 all_append : (xs ys : List Test) → hold_all (xs ++ ys) ≡ (hold_all xs && hold_all ys)
 all_append xs ys = list_all-append (λ (t : Test). t.holds) xs ys

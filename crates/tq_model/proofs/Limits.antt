@@ -11,11 +11,8 @@ use Rattle.tq_types.specs.declared.identifiers.MsgId.{MsgId}
 use Rattle.tq_types.specs.declared.rooms.Lack.{Lack}
 use Rattle.tq_types.specs.declared.rooms.Resource.TheVariants.{Messages, Pages}
 use Rattle.tq_model.specs.Held.{IsWithinLimits}
-use Rattle.tq_model.specs.Space.{Space, Queue, Item, change_first, has_id, holds_id, is_named, is_expired, outlives, freed, stands_before, with_item, with_item_in, without_item, space_without, purged, purged_queue, crashed, crashed_queue, comes_after}
+use Rattle.tq_model.specs.Space.{Space, Queue, Item, change_first, has_id, holds_id, is_named, is_expired, outlives, freed, stands_before, with_item, with_item_in, without_item, space_without, purged, purged_queue, crashed, crashed_queue}
 use Rattle.tq_model.specs.Room.{item_pages, queue_pages, pages_held, messages_held, first_lacking, message_rooms}
-use Rattle.tq_model.specs.Moves.{queue_of}
-use Rattle.tq_model.specs.SpaceForm.{plain_queue}
-use Rattle.tq_model.specs.Step.{with_queue}
 use Rattle.tq_model.proofs.Maps.{sum_by-map}
 use Rattle.tq_model.proofs.Places.{position_or_len-within}
 use Rattle.tq_model.proofs.QueueLists.{remove-past}
@@ -95,15 +92,6 @@ within-crashed s within =
     record {
       messages = omega (arith, sum-map-most length_of crashed_queue crashed-length s.queues, within.messages);
       pages = omega (arith, sum-map-most queue_pages crashed_queue crashed-pages s.queues, within.pages);
-    }
-
-pub within-queue : (name : List ℕ) (s : Space) → IsWithinLimits s → IsWithinLimits (with_queue name s)
-within-queue name s within =
-    let new = queue_of (plain_queue name) [] in
-    let place = position_or_len (comes_after name) s.queues in
-    record {
-      messages = omega (arith, sum_by-insert length_of s.queues place new, within.messages);
-      pages = omega (arith, sum_by-insert queue_pages s.queues place new, within.pages);
     }
 
 pub within-taken : (id : MsgId) (clock : ℕ) (s : Space) → IsWithinLimits s → IsWithinLimits (space_without id (purged clock s))

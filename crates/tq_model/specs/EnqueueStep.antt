@@ -1,5 +1,5 @@
 -- The enqueue step on one space, of a call that is outside transactions and placed plainly.
-use Rattle.std.specs.Prelude.{ℕ, pos, Bool, true, false, if◌then◌else◌, List, [], ◌∷◌, length, Option, Some, None, option_map}
+use Rattle.std.specs.Prelude.{ℕ, pos, false, if◌then◌else◌, [], length, Option, Some, None, option_map}
 use Rattle.tq_types.specs.declared.identifiers.Arrival.{Arrival}
 use Rattle.tq_types.specs.declared.identifiers.MsgId.{MsgId}
 use Rattle.tq_types.specs.declared.labels.Label.{Label}

@@ -1,5 +1,5 @@
 -- Moves: a space whose queues have indices, and what a list of moves makes of it.
-use Rattle.std.specs.Prelude.{ℕ, ◌==◌, ◌-◌, Bool, true, false, if◌then◌else◌, List, [], ◌∷◌, length, map, Option, Some, None, nat_le}
+use Rattle.std.specs.Prelude.{ℕ, ◌==◌, ◌-◌, Bool, if◌then◌else◌, List, [], ◌∷◌, map, Option, Some, None, nat_le}
 use Rattle.std.specs.List.{find, list_any, insert, remove, position_or_len}
 use Rattle.tq_types.specs.declared.identifiers.MsgId.{MsgId}
 use Rattle.tq_types.specs.declared.messages.Mark.{Mark}

@@ -1,10 +1,9 @@
 -- Spaces as the records of their logs make them.
-use Rattle.std.specs.Prelude.{◌≡◌, ◌<◌, ◌≤◌, ◌⊎◌, ℕ, List, Option, None}
+use Rattle.std.specs.Prelude.{◌≡◌, ◌<◌, ◌≤◌, ◌⊎◌, ℕ}
 use Rattle.std.specs.List.{All}
-use Rattle.tq_types.specs.declared.identifiers.Arrival.{Arrival}
 use Rattle.tq_types.specs.declared.identifiers.MsgId.{MsgId}
 use Rattle.tq_types.specs.declared.messages.Qos.TheVariants.{Persistent}
-use Rattle.tq_model.specs.Space.{Item, Queue, Free}
+use Rattle.tq_model.specs.Space.{Item, Free}
 use Rattle.tq_model.specs.Moves.{IndexedQueue, IndexedSpace}
 
 -- an entry that a crash leaves as it is

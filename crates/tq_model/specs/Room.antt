@@ -1,8 +1,7 @@
 -- The room of a space: what is needed and held, and the limit.
-use Rattle.std.specs.Prelude.{ℕ, ◌+◌, nat_lt, Bool, true, false, cond, List, [], ◌∷◌, length, Option, Some, None}
+use Rattle.std.specs.Prelude.{ℕ, ◌+◌, nat_lt, Bool, List, [], ◌∷◌, length, Option}
 use Rattle.std.specs.List.{sum_by, find}
 use Rattle.tq_types.specs.declared.rooms.Lack.{Lack}
-use Rattle.tq_types.specs.declared.rooms.Resource.{Resource}
 use Rattle.tq_types.specs.declared.rooms.Resource.TheVariants.{Messages, Pages}
 use Rattle.tq_types.specs.declared.messages.Qos.{Qos}
 use Rattle.tq_types.specs.declared.messages.Qos.TheVariants.{Persistent, NonPersistent}

@@ -1,5 +1,5 @@
 -- The state of the serial queue machine.
-use Rattle.std.specs.Prelude.{◌≡◌, ℕ, ◌+◌, ◌-◌, ◌*◌, ◌==◌, ◌&&◌, nat_lt, nat_le, Bool, true, false, is_some, if◌then◌else◌, List, [], ◌∷◌, length, map, get_or, set, replicate, Option, Some, None, option_map}
+use Rattle.std.specs.Prelude.{ℕ, ◌+◌, ◌-◌, Bool, is_some, if◌then◌else◌, List, [], ◌∷◌, length, map, get_or, replicate, Option, None, option_map}
 use Rattle.std.specs.List.{find, filter_map, flat_map, sum_by}
 use Rattle.std.specs.Str.{bytes_eq}
 use Rattle.tq_model.specs.declared.answer.Identity.{Identity}

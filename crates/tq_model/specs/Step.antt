@@ -1,5 +1,5 @@
 -- One step of the serial queue machine: a request and its answer.
-use Rattle.std.specs.Prelude.{◌≡◌, ℕ, ◌+◌, ◌-◌, ◌*◌, ◌==◌, ◌&&◌, not, nat_lt, nat_le, Bool, true, false, is_some, if◌then◌else◌, List, [], ◌∷◌, length, set, map, Option, Some, None, unwrap_or, option_map}
+use Rattle.std.specs.Prelude.{ℕ, ◌+◌, ◌-◌, ◌*◌, ◌==◌, ◌&&◌, not, nat_lt, nat_le, Bool, true, false, is_some, if◌then◌else◌, List, [], length, set, map, Option, Some, None, unwrap_or, option_map}
 use Rattle.std.specs.List.{list_any}
 use Rattle.tq_types.specs.declared.identifiers.Arrival.{Arrival}
 use Rattle.tq_model.specs.declared.answer.Identity.{Identity}
@@ -10,7 +10,6 @@ use Rattle.tq_model.specs.declared.answer.Answer.{Answer}
 use Rattle.tq_model.specs.declared.answer.Answer.TheVariants as answers
 use Rattle.tq_model.specs.declared.answer.DeviceAnswer.{DeviceAnswer}
 use Rattle.tq_model.specs.declared.answer.DeviceAnswer.TheVariants as device_answers
-use Rattle.tq_model.specs.declared.answer.SpaceAnswer.{SpaceAnswer}
 use Rattle.tq_model.specs.declared.answer.SpaceAnswer.TheVariants as space_answers
 use Rattle.tq_model.specs.declared.answer.Field.{Field}
 use Rattle.tq_model.specs.declared.answer.Field.TheVariants as fields
@@ -34,7 +33,7 @@ use Rattle.tq_model.specs.declared.request.QueueCreation.{QueueCreation}
 use Rattle.tq_model.specs.declared.request.CallRequest.{CallRequest}
 use Rattle.tq_model.specs.declared.request.CallRequest.TheVariants as call_requests
 use Rattle.tq_model.specs.CallFlags.{wants_id}
-use Rattle.tq_model.specs.Space.{Space, Queue, is_named, overhead_pages, new_space, queues_with}
+use Rattle.tq_model.specs.Space.{Space, is_named, overhead_pages, new_space, queues_with}
 use Rattle.tq_model.specs.SpaceForm.{log_bytes, added_length, gone_length, made_length, longest_body, plain_queue}
 use Rattle.tq_model.specs.Moves.{queue_of}
 use Rattle.tq_model.specs.EnqueueStep.{CallOutcome, enqueue_step, enqueue_refusal}

@@ -1,5 +1,5 @@
 -- The bytes of an answer.
-use Rattle.std.specs.Prelude.{ℕ, ◌/◌, ◌%◌, ◌==◌, ◌||◌, if◌then◌else◌, Bool, false, List, [], ◌∷◌, ◌++◌, length, codes, decimal, Option, Some, None}
+use Rattle.std.specs.Prelude.{ℕ, ◌/◌, ◌%◌, ◌==◌, ◌||◌, if◌then◌else◌, false, List, [], ◌∷◌, ◌++◌, length, codes, decimal, Option, Some, None}
 use Rattle.std.specs.List.{flat_map}
 use Rattle.std.specs.Fmt.{digit_glyph, signed_decimal}
 use Rattle.tq_types.specs.declared.identifiers.MsgId.{MsgId}
@@ -13,7 +13,6 @@ use Rattle.tq_model.specs.declared.answer.SpaceLine.{SpaceLine}
 use Rattle.tq_model.specs.declared.answer.Readiness.{Readiness}
 use Rattle.tq_model.specs.declared.answer.LogRoom.{LogRoom}
 use Rattle.tq_model.specs.declared.answer.SpacePages.{SpacePages}
-use Rattle.tq_model.specs.declared.answer.ClusterRoom.{ClusterRoom}
 use Rattle.tq_model.specs.declared.answer.Answer.{Answer}
 use Rattle.tq_model.specs.declared.answer.Answer.TheVariants.{Done, Syntax, TooLong, SystemError, Ready, Damaged, Invalid, NoEntry, LogFull, Device, Space, Call}
 use Rattle.tq_model.specs.declared.answer.DeviceAnswer.{DeviceAnswer}
