@@ -31,4 +31,4 @@ pub use request::{
     CallRequest, Creation, DeviceRequest, QueueCreation, Request, SpaceCreation, SpaceRequest,
 };
 pub use room::{message_pages, overhead_pages, pages_for};
-pub use space::{Change, QueueDef, Shape, SpaceMove};
+pub use space::{Change, QueueDef, Shape, SpaceMove, plain_queue};

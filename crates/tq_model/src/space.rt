@@ -1,4 +1,7 @@
-use tq_types::{Entry, Label, Mark, MsgId, Name, Order, Qos};
+ghost use Rattle.std.specs.Prelude.{◌≡◌};
+ghost use Rattle.tq_model.specs.SpaceForm.{plain_queue};
+
+use tq_types::{Entry, Label, Last, Mark, MsgId, Name, Order, Qos};
 
 /// How a space is created.
 #[derive(Clone, Copy, Debug, PartialEq, Eq)]
@@ -53,4 +56,22 @@ pub enum SpaceMove {
     PutQueue(u16, QueueDef),
     /// Removes a queue that has no entries.
     DropQueue(u16),
+}
+
+/// The queue of that name, as it is made where nothing more is asked for.
+pub fn plain_queue(name: &Name) -> QueueDef
+    ensures { result ≡ plain_queue name.now }
+{
+    let Ok(order) = Order::new(&[], Last::Fifo) else {
+        unreachable!()
+    };
+    QueueDef {
+        name: *name,
+        order,
+        top: false,
+        before: false,
+        qos: Qos::Persistent,
+        retries: 0,
+        delay: 0,
+    }
 }

@@ -94,34 +94,6 @@ slab_less (Some e) old new some none = omega arith
 
 -- ---- queues that got more room
 
-pub grown_same : (queues : List HeldQueue) → AreGrown queues queues
-grown_same queues = record {
-  long = refl;
-  each = λ k d lt. record { index = refl; def = refl; keys_are = refl; len = refl; room = omega arith };
-}
-
-grown_twice : (a b c : HeldQueue) → IsGrown a b → IsGrown b c → IsGrown a c
-grown_twice a b c g h = record {
-  index = h.index ∙ g.index;
-  def = h.def ∙ g.def;
-  keys_are = h.keys_are ∙ g.keys_are;
-  len = h.len ∙ g.len;
-  room = omega (arith, g.room, h.room);
-}
-
-pub grown_set : (a b : List HeldQueue) (at : ℕ) (q q' : HeldQueue) → AreGrown a b → at < length b → q ≡ get_or b at q → IsGrown q q' → AreGrown a (set b at q')
-grown_set a b at q q' grown within is_q more = record {
-  long = length-set b at q' ∙ grown.long;
-  each = λ k d lt.
-      by_key at k (IsGrown (get_or a k d) (get_or (set b at q') k d))
-      (λ same.
-      let here : get_or (set b at q') k d ≡ q' = subst (λ (n : ℕ). get_or (set b at q') n d ≡ q') same (get_or-set_same b at q' d within) in
-      let was : q ≡ get_or b k d = is_q ∙ get_or_default b at q d within ∙ ap (λ (n : ℕ). get_or b n d) same in
-      let less : IsGrown (get_or a k d) q = subst (IsGrown (get_or a k d)) (sym was) (grown.each k d lt) in
-      subst (IsGrown (get_or a k d)) (sym here) (grown_twice (get_or a k d) q q' less more))
-      (λ differs no. subst (IsGrown (get_or a k d)) (sym (get_or-set_other b at k q' d differs)) (grown.each k d lt));
-}
-
 some_first : {X : Type 0} (xs : List X) (k : ℕ) → k < length xs → (P : Type 0) → (X → P) → P
 some_first [] k lt P f = absurd (omega arith)
 some_first (x ∷ xs) k lt P f = f x

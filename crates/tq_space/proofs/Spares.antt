@@ -15,10 +15,6 @@ all_less n m xs less all = λ k d lt. spare_less n m (get_or xs k d) less (all k
 pub spares_less : (n m : ℕ) (spare : Vec (Vec ℕ Global) Global) → m ≤ n → HasSpare n spare → HasSpare m spare
 spares_less n m spare less has = record { count = omega (arith, has.count); each = all_less n m spare.items less has.each }
 
--- a list gets more room
-pub spare_wider : (n : ℕ) (old new : Vec ℕ Global) → new.items ≡ old.items → vec_len new ≡ vec_len old → vec_capacity old ≤ vec_capacity new → IsSpare n old → IsSpare n new
-spare_wider n old new items len wider spare = record { empty = items ∙ spare.empty; room = omega (arith, spare.room) }
-
 pub spares_same : (n : ℕ) (old new : Vec (Vec ℕ Global) Global) → new.items ≡ old.items → vec_len new ≡ vec_len old → HasSpare n old → HasSpare n new
 spares_same n old new items len has = record { count = omega (arith, has.count); each = subst (All (IsSpare n)) (sym items) has.each }
 
@@ -31,11 +27,4 @@ pub spares_more : (n : ℕ) (old new : Vec (Vec ℕ Global) Global) (keys : Vec 
 spares_more n old new keys items len spare has = record {
   count = omega (arith, has.count);
   each = subst (All (IsSpare n)) (sym items) (all_more n old.items keys has.each spare);
-}
-
--- the last is taken
-pub spares_rest : (n : ℕ) (old new : Vec (Vec ℕ Global) Global) → new.items ≡ take (vec_len old - 1) old.items → vec_len new + 1 ≡ vec_len old → HasSpare n old → HasSpare (n - 1) new
-spares_rest n old new rest len has = record {
-  count = omega (arith, has.count);
-  each = subst (All (IsSpare (n - 1))) (sym rest) (All-take (IsSpare (n - 1)) (vec_len old - 1) old.items (all_less n (n - 1) old.items (omega arith) has.each));
 }

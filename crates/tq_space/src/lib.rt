@@ -7,7 +7,8 @@ mod shelf;
 mod space;
 
 pub use plans::{Moves, Plan, Purge, QueueRefusal, Refusal};
-pub use space::{Space, plain_queue, plan_of};
+pub use space::{Space, plan_of};
+pub use tq_model::plain_queue;
 
 #[cfg(test)]
 mod tests;

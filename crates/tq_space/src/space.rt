@@ -6,7 +6,7 @@ ghost use Rattle.tq_space.specs.Reads.{indexed_named};
 ghost use Rattle.tq_model.specs.Room.{pages_for, pages_at, messages_held, pages_held, message_rooms, first_lacking};
 ghost use Rattle.tq_model.specs.EnqueueStep.{quality, next_id, enqueue_step, enqueue_refusal};
 ghost use Rattle.tq_model.specs.DequeueStep.{dequeue_step, dequeue_refusal, delivered, content_bytes};
-ghost use Rattle.tq_model.specs.SpaceForm.{plain_queue, holds_arrival, holds_name, empty_space};
+ghost use Rattle.tq_model.specs.SpaceForm.{holds_arrival, holds_name, empty_space};
 ghost use Rattle.tq_space.specs.Plain.{IsPlainEnqueue, IsPlainDequeue, CanInsert, CanReplace, CanDrop, CanMove, CanMoveBy};
 ghost use Rattle.tq_space.specs.Applied.{plan_applied};
 ghost use Rattle.tq_space.specs.Planned.{MeetsStep, IsRefused, IsInsertOf, IsRemovalOf, MeetsCreation};
@@ -18,11 +18,11 @@ use std::alloc::{AllocError, Global};
 use std::marker::Model;
 use tq_model::{
     CallAnswer, Change, Delivery, DequeueAsk, DequeueCall, EnqueueAsk, QueueDef, Shape, SpaceMove,
-    message_pages, overhead_pages, pages_for,
+    message_pages, overhead_pages, pages_for, plain_queue,
 };
 use tq_types::{
-    Arrival, AskedQos, Body, Entry, Label, Lack, Last, Mark, Message, MsgId, Name, Order, Path,
-    Qos, Resource, Root,
+    Arrival, AskedQos, Body, Entry, Label, Lack, Mark, Message, MsgId, Name, Path, Qos, Resource,
+    Root,
 };
 
 /// The limits of a space's creation; the pages are those for messages.
@@ -184,24 +184,6 @@ fn delivery_of(entry: &Entry, call: &DequeueCall) -> Result<Delivery, AllocError
         urcode: entry.message.urcode,
         id,
     })
-}
-
-/// The queue of that name, as it is made where nothing more is asked for.
-pub fn plain_queue(name: &Name) -> QueueDef
-    ensures { result ≡ plain_queue name.now }
-{
-    let Ok(order) = Order::new(&[], Last::Fifo) else {
-        unreachable!()
-    };
-    QueueDef {
-        name: *name,
-        order,
-        top: false,
-        before: false,
-        qos: Qos::Persistent,
-        retries: 0,
-        delay: 0,
-    }
 }
 
 /// The pages of an entry.

@@ -8,10 +8,10 @@ ghost use Rattle.tq_model.specs.Entries.{free_entry};
 
 use crate::entries::{has_id, is_eligible, is_expired, outlives};
 use crate::room::message_pages;
-use crate::space::QueueDef;
+use crate::space::{QueueDef, plain_queue};
 use std::alloc::{AllocError, Global};
 use std::marker::Model;
-use tq_types::{Entry, Last, Mark, MsgId, Name, Order, Qos, compare};
+use tq_types::{Entry, Mark, MsgId, Name, Order, Qos, compare};
 
 /// A queue, and its entries in the order of their labels.
 #[derive(Drop)]
@@ -122,24 +122,6 @@ impl QueueList {
         let place = place_for(&self.items, &self.def.order, &entry, clock);
         self.items.insert(place, entry)?;
         Ok(())
-    }
-}
-
-/// The queue of that name, as it is made where nothing more is asked for.
-fn plain_queue(name: &Name) -> QueueDef
-    ensures { result ≡ plain_queue name.now }
-{
-    let Ok(order) = Order::new(&[], Last::Fifo) else {
-        unreachable!()
-    };
-    QueueDef {
-        name: *name,
-        order,
-        top: false,
-        before: false,
-        qos: Qos::Persistent,
-        retries: 0,
-        delay: 0,
     }
 }
 
