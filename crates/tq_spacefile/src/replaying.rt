@@ -10,7 +10,7 @@ use tq_space::{Space, plain_queue, plan_of};
 use tq_types::{Arrival, AskedQos, Body, Entry, Label, Mark, Message, MsgId, Path, Qos, Root};
 
 /// Whether a record may come next; its message is of this epoch at most.
-fn can_follow(space: &Space, epoch: u32, change: &SpaceRecord) -> bool
+pub(crate) fn can_follow(space: &Space, epoch: u32, change: &SpaceRecord) -> bool
     ensures { result ≡ can_follow epoch space.now.held change.now }
 {
     match change {
@@ -73,7 +73,7 @@ fn plain_entry(queue: u16, arrival: Arrival, id: MsgId, body: Body) -> Entry
 }
 
 /// The move that a record is made by.
-fn move_for(space: &Space, change: SpaceRecord) -> SpaceMove
+pub(crate) fn move_for(space: &Space, change: SpaceRecord) -> SpaceMove
     ensures { result ≡ move_of space.now.held change }
 {
     match change {
