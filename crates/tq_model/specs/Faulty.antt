@@ -76,10 +76,14 @@ abbrev pub down_turn : Bool → Option Site → List Site → Request → Turn
 down_turn rose found sites Boot = reboot_turn rose found sites
 down_turn rose found sites request = record { condition = Down sites; answer = down_answer request }
 
+-- The turn of a request, from whether the device count rises in it and the site for which the devices stood before it.
+abbrev pub turn_at : Bool → Option Site → Condition → Request → Turn
+turn_at rose found (Up s) request = if rose then failing_turn s request else steady_turn s request
+turn_at rose found (Down sites) request = down_turn rose found sites request
+
 -- the turn of a request whose text begins at this byte of the output
 abbrev pub turn : Trace → ℕ → Condition → Request → Turn
-turn trace at (Up s) request = if rose_at trace at then failing_turn s request else steady_turn s request
-turn trace at (Down sites) request = down_turn (rose_at trace at) (found_at trace at) sites request
+turn trace at condition request = turn_at (rose_at trace at) (found_at trace at) condition request
 
 -- how far a run is
 pub record Progress : Type 0 where
