@@ -7,7 +7,7 @@ use Rattle.std.specs.Str.Parse.{digits_value}
 use Rattle.tq_model.specs.declared.calls.Flag.{Flag}
 use Rattle.tq_model.specs.declared.calls.Flag.TheVariants as flags
 use Rattle.tq_model.specs.declared.grammar.Verb.{Verb}
-use Rattle.tq_model.specs.declared.grammar.Verb.TheVariants.{CreateDevice, ListDevice, CreateSpace, CreateQueue, Enqueue, Dequeue}
+use Rattle.tq_model.specs.declared.grammar.Verb.TheVariants.{Boot, CreateDevice, ListDevice, CreateSpace, CreateQueue, Enqueue, Dequeue}
 use Rattle.tq_model.specs.declared.grammar.Kind.{Kind}
 use Rattle.tq_model.specs.declared.grammar.Kind.TheVariants as kinds
 use Rattle.tq_model.specs.declared.grammar.Key.{Key}
@@ -15,7 +15,7 @@ use Rattle.tq_model.specs.declared.grammar.Key.TheVariants as keys
 use Rattle.tq_model.specs.declared.grammar.Value.{Value}
 use Rattle.tq_model.specs.declared.grammar.Value.TheVariants.{Number, Name, ErrorName, Text, Flags}
 use Rattle.tq_model.specs.declared.request.Request.{Request}
-use Rattle.tq_model.specs.declared.request.Request.TheVariants.{Nothing, Bad, TooLong, Device, Space, Call}
+use Rattle.tq_model.specs.declared.request.Request.TheVariants.{Nothing, Boot as BootAsked, Bad, TooLong, Device, Space, Call}
 use Rattle.tq_model.specs.declared.request.DeviceRequest.TheVariants.{Create, List as ListOf}
 use Rattle.tq_model.specs.declared.request.SpaceRequest.TheVariants as space_requests
 use Rattle.tq_model.specs.declared.request.CallRequest.TheVariants as call_requests
@@ -184,6 +184,7 @@ value_of kinds.Flags word = option_map Flags (flags_from (pieces word))
 -- The table
 
 abbrev pub verb_word : Verb → List ℕ
+verb_word Boot = codes "boot"
 verb_word CreateDevice = codes "crdl"
 verb_word ListDevice = codes "lidl"
 verb_word CreateSpace = codes "qspacecreate"
@@ -226,6 +227,7 @@ space_keys =
     ∷ needed keys.Messages kinds.Number ∷ needed keys.Error kinds.ErrorName ∷ needed keys.Memory kinds.Number ∷ []
 
 abbrev pub row_of : Verb → Row
+row_of Boot = record { positional = []; keyed = [] }
 row_of CreateDevice = record { positional = kinds.Device ∷ kinds.Number ∷ []; keyed = optional keys.Site kinds.Number ∷ [] }
 row_of ListDevice = record { positional = kinds.Device ∷ []; keyed = [] }
 row_of CreateSpace = record { positional = kinds.Name ∷ []; keyed = space_keys }
@@ -234,7 +236,7 @@ row_of Enqueue = record { positional = kinds.Session ∷ kinds.Name ∷ kinds.Na
 row_of Dequeue = record { positional = kinds.Session ∷ kinds.Name ∷ kinds.Name ∷ []; keyed = optional keys.Flags kinds.Flags ∷ [] }
 
 abbrev pub verbs : List Verb
-verbs = CreateDevice ∷ ListDevice ∷ CreateSpace ∷ CreateQueue ∷ Enqueue ∷ Dequeue ∷ []
+verbs = Boot ∷ CreateDevice ∷ ListDevice ∷ CreateSpace ∷ CreateQueue ∷ Enqueue ∷ Dequeue ∷ []
 
 abbrev pub verb_among : List Verb → List ℕ → Option Verb
 verb_among [] word = None
@@ -381,6 +383,7 @@ dequeue_words space queue given = record { space = space; queue = queue; notran 
 
 -- what a verb with these words asks for
 abbrev pub request_of : Verb → List Value → List Given → Request
+request_of Boot [] given = BootAsked
 request_of CreateDevice (Number dev ∷ Number clusters ∷ []) given = Device (Create (record { dev = dev; clusters = clusters; site = number_given keys.Site given }))
 request_of ListDevice (Number dev ∷ []) given = Device (ListOf dev)
 request_of CreateSpace (Name name ∷ []) given = Space (space_requests.Create (space_creation name given))

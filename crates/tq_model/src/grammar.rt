@@ -4,6 +4,8 @@ use tq_types::{Body, Name};
 /// A verb of the script.
 #[derive(Clone, Copy, Debug, PartialEq, Eq)]
 pub enum Verb {
+    /// `boot`
+    Boot,
     /// `crdl`
     CreateDevice,
     /// `lidl`

@@ -6,7 +6,7 @@ use tq_types::Name;
 pub enum Request {
     /// An empty line or a comment.
     Nothing,
-    /// A crash and a boot; the start of a run is this request too.
+    /// `boot`, a crash and a boot; the start of a run is this request too.
     Boot,
     /// No request: the column, from 1, of the first byte that does not fit.
     Bad(u64),

@@ -45,12 +45,12 @@ fn ready(identity: Option<Identity>, spaces: u32, in_doubt: u32) -> Answer {
     })
 }
 
+fn site(site: u32, epoch: u32) -> Option<Identity> {
+    Some(Identity { site, epoch })
+}
+
 #[test]
 fn lines(rt: HostRuntime) -> Result<(), Fail> {
-    let identity = Identity {
-        site: 7,
-        epoch: 4294967295,
-    };
     let room = LogRoom {
         need: 70000,
         free: 69999,
@@ -64,12 +64,23 @@ fn lines(rt: HostRuntime) -> Result<(), Fail> {
         ),
         (
             9,
-            ready(Some(identity), 2, 3),
+            ready(site(7, 4294967295), 2, 3),
             "9 READY site=7 epoch=4294967295 spaces=2 indoubt=3\n",
+        ),
+        (
+            10,
+            ready(site(1, 2), 1, 0),
+            "10 READY site=1 epoch=2 spaces=1 indoubt=0\n",
+        ),
+        (
+            11,
+            ready(site(4294967295, 1), 128, 8192),
+            "11 READY site=4294967295 epoch=1 spaces=128 indoubt=8192\n",
         ),
         (4, Answer::Done, "4 OK\n"),
         (5, Answer::Syntax(7), "5 SYNTAX column=7\n"),
         (8, Answer::Damaged(0), "8 DAMAGED 0\n"),
+        (9, Answer::Damaged(7), "9 DAMAGED 7\n"),
         (10, Answer::SystemError, "10 TPESYSTEM\n"),
         (11, Answer::Invalid(65537), "11 TPEINVAL size=65537\n"),
         (12, Answer::NoEntry, "12 TPENOENT\n"),

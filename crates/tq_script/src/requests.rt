@@ -70,6 +70,7 @@ fn request_of(
     ensures { IfOk result (λ request. request ≡ request_of verb values.now (map given_of given.items)) }
 {
     match verb {
+        Verb::Boot => Ok(Request::Boot),
         Verb::CreateDevice => Ok(create_device(values, &given)),
         Verb::ListDevice => Ok(list_device(values)),
         Verb::CreateSpace => Ok(create_space(values, &given)),

@@ -43,7 +43,8 @@ macro_rules! optional {
 }
 
 /// Every verb.
-const VERBS: [Verb; 6] = [
+const VERBS: [Verb; 7] = [
+    Verb::Boot,
     Verb::CreateDevice,
     Verb::ListDevice,
     Verb::CreateSpace,
@@ -58,6 +59,10 @@ pub fn row_of(verb: Verb) -> Row
     ensures keyed { map key_row_of result.keyed.now ≡ (row_of verb).keyed }
 {
     match verb {
+        Verb::Boot => Row {
+            positional: &[],
+            keyed: &[],
+        },
         Verb::CreateDevice => Row {
             positional: &[Kind::Device, Kind::Number],
             keyed: &[optional!(Site, Number)],
@@ -97,6 +102,7 @@ fn verb_word(verb: Verb) -> &'static [u8]
     ensures { result.now ≡ verb_word verb }
 {
     match verb {
+        Verb::Boot => b"boot",
         Verb::CreateDevice => b"crdl",
         Verb::ListDevice => b"lidl",
         Verb::CreateSpace => b"qspacecreate",

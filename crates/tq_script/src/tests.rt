@@ -12,6 +12,10 @@ const MISFITS: &[(&[u8], u64)] = &[
     // the verb
     (b"\"#\"", 1),
     (b"LIDL 1", 1),
+    (b"Boot", 1),
+    (b" boots", 2),
+    (b"boot=1", 1),
+    (b"boot\t", 1),
     (b"lid 1", 1),
     (b"lidls 1", 1),
     (b"  list 1", 3),
@@ -44,6 +48,11 @@ const MISFITS: &[(&[u8], u64)] = &[
     (b"crdl 0 site=1", 8),
     (b"crdl site=1 0 4", 6),
     // a keyed word
+    (b"boot 1", 6),
+    (b"boot x", 6),
+    (b"  boot  x=1 y", 9),
+    (b"boot site=1", 6),
+    (b"boot #", 6),
     (b"lidl 1 2", 8),
     (b"lidl 1 site=1", 8),
     (b"lidl 1 \"a\\\" b\"", 8),
@@ -216,6 +225,18 @@ fn misfits(rt: HostRuntime) -> Result<(), Fail> {
 fn comments(rt: HostRuntime) -> Result<(), Fail> {
     for line in COMMENTS {
         assert_eq!(rt; parse(rt.alloc(), line)?, Request::Nothing, "at {line:?}");
+    }
+    Ok(())
+}
+
+#[test]
+fn boots(rt: HostRuntime) -> Result<(), Fail> {
+    for line in ["boot", " boot ", "boot   "] {
+        assert_eq!(rt;
+            parse(rt.alloc(), line.as_bytes())?,
+            Request::Boot,
+            "at {line:?}"
+        );
     }
     Ok(())
 }
