@@ -19,6 +19,8 @@ enum Line<'a> {
     Put(Name, Name, &'a [u8]),
     /// A dequeue.
     Take(Name, Name),
+    /// No line: the site after many boots, with that epoch and clock.
+    Age(u32, u64),
 }
 
 /// What a line is to be answered.
@@ -61,6 +63,10 @@ fn ask(machine: &mut Machine, alloc: Global, line: &Line) -> Result<Answer, Allo
         Line::Take(space, queue) => {
             let words = take(alloc, *space, *queue);
             machine.step(&Request::Call(CallRequest::Dequeue(1, words)))
+        }
+        Line::Age(epoch, clock) => {
+            machine.age(*epoch, *clock);
+            Ok(Answer::Done)
         }
     }
 }
@@ -296,6 +302,43 @@ fn two_devices(rt: HostRuntime) -> Result<(), Fail> {
         (Line::Plain(Request::Boot), ready(site(4294967295, 2), 0)),
     ];
     run(&rt, alloc, 2, &rows)?;
+    Ok(())
+}
+
+#[test]
+fn boots(rt: HostRuntime) -> Result<(), Fail> {
+    let alloc = rt.alloc();
+    let s = Name::new(b"S")?;
+    let q = Name::new(b"Q")?;
+    let last = u32::MAX;
+    let rows = [
+        (create(0, 64, Some(1)), created(64, 60)),
+        (space(s, 0, 64, 16), made(8, 45, 64)),
+        (queue(s, q), is(Answer::Done)),
+        (Line::Put(s, q, b"a"), known(1, 0)),
+        // from the last epoch but one on; what is put at 9 is not there for a clock of 0
+        (Line::Age(last - 1, 9), is(Answer::Done)),
+        (Line::Put(s, q, b"b"), known(last - 1, 1)),
+        (Line::Plain(Request::Boot), ready(site(1, last), 1)),
+        (Line::Take(s, q), Wanted::Message(b"a")),
+        (Line::Take(s, q), of_call(CallAnswer::NoMessage)),
+        (Line::Put(s, q, b"c"), known(last, 0)),
+        // at the last epoch
+        (Line::Age(last, 9), is(Answer::Done)),
+        (Line::Put(s, q, b"d"), known(last, 1)),
+        (Line::Plain(Request::Boot), is(Answer::Damaged(0))),
+        (list(0), listed(64, 58, space_lines(alloc, s, 8, 64, 2)?)),
+        (Line::Take(s, q), Wanted::Message(b"c")),
+        (Line::Take(s, q), of_call(CallAnswer::NoMessage)),
+        (Line::Put(s, q, b"e"), known(last, 0)),
+        (Line::Take(s, q), Wanted::Message(b"e")),
+        (Line::Age(last, 9), is(Answer::Done)),
+        (Line::Take(s, q), Wanted::Message(b"b")),
+        (Line::Plain(Request::Boot), is(Answer::Damaged(0))),
+        (Line::Age(last, 9), is(Answer::Done)),
+        (Line::Take(s, q), Wanted::Message(b"d")),
+    ];
+    run(&rt, alloc, 1, &rows)?;
     Ok(())
 }
 
