@@ -1,5 +1,5 @@
 -- How the counts of the parts of a run add up.
-use Rattle.std.proofs.Common.{◌≡◌, ◌≤◌, ◌<◌, ℕ, Result, Ok, Err, refl, sym, ◌∙◌, ap, subst, IfOk, OnOk, OnErr, arith}
+use Rattle.std.proofs.Common.{◌≡◌, ◌≢◌, ◌≤◌, ◌<◌, ℕ, Result, Ok, Err, refl, sym, ◌∙◌, ap, subst, IfOk, OnOk, OnErr, arith}
 use Rattle.std.specs.Result.{MatchResult, IsErrAnd}
 use Rattle.tq_host.specs.View.{View}
 use Rattle.tq_host.specs.Calls.{HasCauseOf}
@@ -8,7 +8,7 @@ use Rattle.tq_run.specs.declared.status.Status.TheVariants as status
 use Rattle.tq_run.specs.declared.status.Stop.{Stop}
 use Rattle.tq_run.specs.declared.status.Stop.TheVariants.{Damaged, Memory, Input, Output, Device, TooMuchInput}
 use Rattle.tq_run.specs.Ending.{status_for}
-use Rattle.tq_run.specs.Counts.{Rises, IsQuiet, RoseDevice, RoseInput, RoseOutput, StopCounts, HasCounts}
+use Rattle.tq_run.specs.Counts.{Rises, IsQuiet, RoseDevice, RoseInput, RoseOutput, StopCounts, HasCounts, IsCalm, LostInput, LostOutput, RunStopCounts, HasRunCounts}
 
 pub quiet : (v : View) → IsQuiet v v
 quiet v = record { device = refl; input = refl; output = refl }
@@ -37,6 +37,11 @@ on_ok (Err e) G f = tt
 pub of_ok : {T E : Type 0} (r : Result T E) (x : T) (A : Type 0) → r ≡ Ok x → OnOk r A → A
 of_ok {T} {E} r x A e h = subst (λ (q : Result T E). OnOk q A) e h
 
+-- a fact of an error
+pub at_err : {T E : Type 0} (r : Result T E) (A : Type 0) → A → OnErr r A
+at_err (Ok x) A a = tt
+at_err (Err e) A a = a
+
 -- what answered Ok before its error was mapped
 pub ok_before : {T E F : Type 0} (r : Result T E) (q : Result T F) (Q : E → F → Type 0) (x : T) → MatchResult r (λ y. q ≡ Ok y) (λ e. IsErrAnd q (Q e)) → q ≡ Ok x → r ≡ Ok x
 ok_before (Ok y) q Q x cases is = ap Ok (same y x (sym cases ∙ is))
@@ -60,16 +65,7 @@ steady_cause failed before now same never = record { later = omega arith; rose =
 risen_cause : (failed : Type 0) (before now : ℕ) → Rises before now → failed → HasCauseOf failed before now
 risen_cause failed before now rises f = record { later = rises.later; rose = λ g. rises.rose; only = λ lt. f }
 
-pub device_cause : (r : Result (Unit {0}) Stop) (old new : View) → HasCounts r old new → HasCauseOf (status_for r ≡ status.DeviceFault) old.faults new.faults
-device_cause (Ok x) old new h = steady_cause _ _ _ h.device (λ e. cc)
-device_cause (Err Damaged) old new h = steady_cause _ _ _ h.device (λ e. cc)
-device_cause (Err Memory) old new h = steady_cause _ _ _ h.device (λ e. cc)
-device_cause (Err Input) old new h = steady_cause _ _ _ h.device (λ e. cc)
-device_cause (Err Output) old new h = steady_cause _ _ _ h.device (λ e. cc)
-device_cause (Err TooMuchInput) old new h = steady_cause _ _ _ h.device (λ e. cc)
-device_cause (Err Device) old new h = risen_cause _ _ _ h.device refl
-
-pub read_cause : (r : Result (Unit {0}) Stop) (old new : View) → HasCounts r old new → HasCauseOf (status_for r ≡ status.ReadFault) old.streams.input_faults new.streams.input_faults
+pub read_cause : (r : Result (Unit {0}) Stop) (old new : View) → HasRunCounts r old new → HasCauseOf (status_for r ≡ status.ReadFault) old.streams.input_faults new.streams.input_faults
 read_cause (Ok x) old new h = steady_cause _ _ _ h.input (λ e. cc)
 read_cause (Err Damaged) old new h = steady_cause _ _ _ h.input (λ e. cc)
 read_cause (Err Memory) old new h = steady_cause _ _ _ h.input (λ e. cc)
@@ -78,7 +74,7 @@ read_cause (Err Output) old new h = steady_cause _ _ _ h.input (λ e. cc)
 read_cause (Err TooMuchInput) old new h = steady_cause _ _ _ h.input (λ e. cc)
 read_cause (Err Input) old new h = risen_cause _ _ _ h.input refl
 
-pub write_cause : (r : Result (Unit {0}) Stop) (old new : View) → HasCounts r old new → HasCauseOf (status_for r ≡ status.WriteFault) old.streams.output_faults new.streams.output_faults
+pub write_cause : (r : Result (Unit {0}) Stop) (old new : View) → HasRunCounts r old new → HasCauseOf (status_for r ≡ status.WriteFault) old.streams.output_faults new.streams.output_faults
 write_cause (Ok x) old new h = steady_cause _ _ _ h.output (λ e. cc)
 write_cause (Err Damaged) old new h = steady_cause _ _ _ h.output (λ e. cc)
 write_cause (Err Memory) old new h = steady_cause _ _ _ h.output (λ e. cc)
@@ -86,3 +82,39 @@ write_cause (Err Device) old new h = steady_cause _ _ _ h.output (λ e. cc)
 write_cause (Err Input) old new h = steady_cause _ _ _ h.output (λ e. cc)
 write_cause (Err TooMuchInput) old new h = steady_cause _ _ _ h.output (λ e. cc)
 write_cause (Err Output) old new h = risen_cause _ _ _ h.output refl
+
+-- Counts of lines
+
+pub calm : (v : View) → IsCalm v v
+calm v = record { device = omega arith; input = refl; output = refl }
+
+pub calm_on : (a b c : View) → IsCalm a b → IsCalm b c → IsCalm a c
+calm_on a b c first second = record { device = omega (arith, first.device, second.device); input = second.input ∙ first.input; output = second.output ∙ first.output }
+
+pub quiet_calm : (a b : View) → IsQuiet a b → IsCalm a b
+quiet_calm a b is = record { device = omega (arith, is.device); input = is.input; output = is.output }
+
+run_stop_on : (stop : Stop) (a b c : View) → IsCalm a b → (stop ≢ Device) → (stop ≢ Damaged) → RunStopCounts stop b c → RunStopCounts stop a c
+run_stop_on Damaged a b c first device damaged second = absurd (damaged refl)
+run_stop_on Device a b c first device damaged second = absurd (device refl)
+run_stop_on Memory a b c first device damaged second = calm_on a b c first second
+run_stop_on TooMuchInput a b c first device damaged second = calm_on a b c first second
+run_stop_on Input a b c first device damaged second = record { device = omega (arith, first.device, second.device); input = subst (λ n. Rises n c.streams.input_faults) first.input second.input; output = second.output ∙ first.output }
+run_stop_on Output a b c first device damaged second = record { device = omega (arith, first.device, second.device); input = second.input ∙ first.input; output = subst (λ n. Rises n c.streams.output_faults) first.output second.output }
+
+-- a part of a run, after one in which no stream failed
+pub run_counts_on : {T : Type 0} (r : Result T Stop) (a b c : View) → IsCalm a b → (r ≢ Err Device) → (r ≢ Err Damaged) → HasRunCounts r b c → HasRunCounts r a c
+run_counts_on (Ok x) a b c first device damaged second = calm_on a b c first second
+run_counts_on (Err stop) a b c first device damaged second = run_stop_on stop a b c first (λ e. device (ap Err e)) (λ e. damaged (ap Err e)) second
+
+pub stop_counts : (stop : Stop) (a b : View) → StopCounts stop a b → RunStopCounts stop a b
+stop_counts Damaged a b is = is
+stop_counts Device a b is = is
+stop_counts Memory a b is = quiet_calm a b is
+stop_counts TooMuchInput a b is = quiet_calm a b is
+stop_counts Input a b is = record { device = omega (arith, is.device); input = is.input; output = is.output }
+stop_counts Output a b is = record { device = omega (arith, is.device); input = is.input; output = is.output }
+
+pub run_counts : {T : Type 0} (r : Result T Stop) (a b : View) → HasCounts r a b → HasRunCounts r a b
+run_counts (Ok x) a b is = quiet_calm a b is
+run_counts (Err stop) a b is = stop_counts stop a b is

@@ -12,40 +12,35 @@ use Rattle.tq_run.specs.declared.status.Status.{Status}
 use Rattle.tq_run.specs.declared.status.Status.TheVariants as status
 use Rattle.tq_run.specs.declared.status.Stop.{Stop}
 use Rattle.tq_run.specs.declared.status.Stop.TheVariants.{Damaged, Memory, Input, Output, Device, TooMuchInput}
-use Rattle.tq_run.specs.Counts.{Rises, NoneRose, HasCounts}
+use Rattle.tq_run.specs.Counts.{NoneRose, HasRunCounts}
 use Rattle.tq_run.specs.Ending.{trace_of, status_for, FailsInLine0, IsComplete, IsDone}
 use Rattle.tq_run.specs.Manager.{is_bootable}
-use Rattle.tq_run.specs.Output.{GivesSome}
-use Rattle.tq_run.specs.Serial.{IsSerial}
-use Rattle.tq_run.proofs.Flat.{is_done}
-
-none_long : (l : List ℕ) → length l ≡ 0 → l ≡ []
-none_long [] e = refl
-none_long (x ∷ l) e = absurd (omega arith)
-
-lower : (a b : ℕ) → nat_lt a b ≡ true → a < b
-lower a b e = grind (arith, nat_tests)
-
-not_lower : (a b : ℕ) → b ≡ a → nat_lt a b ≡ true → ⊥
-not_lower a b same e = grind (arith, nat_tests)
-
--- where something was given, line 0 did not fail
-by_stamps : (ended : Type 0) (start now : View) (stamps : List Stamp) (some : GivesSome start now) → some.1.added ≡ stamps → (start.faults < now.faults → ended)
-    → rose_at (trace_of start now stamps) 0 ≡ true → ended × (now.streams.output ≡ start.streams.output)
-by_stamps ended start now [] some is why rose =
-    let none : some.0 ≡ [] = none_long some.0 (sym some.1.long ∙ ap length is) in
-    (why (lower start.faults now.faults rose), some.1.output ∙ ap (λ (t : List ℕ). start.streams.output ++ t) none ∙ append-nil start.streams.output)
-by_stamps ended start now (s ∷ stamps) some is why rose =
-    absurd (not_lower start.faults s.faults (ap (λ (l : List Stamp). (get_or l 0 s).faults) (sym is) ∙ some.1.steady 0 s (omega (arith, ap length is))) rose)
-
-pub line_0 : (ended : Type 0) (start now : View) → GivesSome start now → (start.faults < now.faults → ended) → FailsInLine0 ended start now
-line_0 ended start now some why added is rose =
-    by_stamps ended start now added some (append_cancel_left start.streams.stamps some.1.added added (sym some.1.stamps ∙ is)) why rose
+use Rattle.tq_run.specs.Output.{TellsMore, HasBegun}
+use Rattle.tq_run.proofs.Beginning.{calm_begun}
 
 unlike : (b : Bool) → b ≡ true → b ≡ false → ⊥
 unlike b is isnt = cc
 
-pub damaged_always : (r : Result (Unit {0}) Stop) (old new : View) (tells : Type 0) → ((r ≢ Err Damaged) → (r ≢ Err Device) → (r ≢ Err Memory) → tells → is_bootable (site_found 1 old.reads) ≡ true) → HasCounts r old new
+-- Line 0
+
+-- A part of a run that ended in line 0 failed there exactly where it is said so.
+pub line_0_ended : (stop : Stop) (start now : View) → (stop ≡ Device → now.streams.output ≡ start.streams.output)
+    → ((stop ≢ Device) → (added : List Stamp) → now.streams.stamps ≡ start.streams.stamps ++ added → rose_at (trace_of start now added) 0 ≡ false) → FailsInLine0 (stop ≡ Device) start now
+line_0_ended Device start now silent calm added is rose = (refl, silent refl)
+line_0_ended Damaged start now silent calm added is rose = absurd (unlike _ rose (calm (λ e. cc) added is))
+line_0_ended Memory start now silent calm added is rose = absurd (unlike _ rose (calm (λ e. cc) added is))
+line_0_ended Input start now silent calm added is rose = absurd (unlike _ rose (calm (λ e. cc) added is))
+line_0_ended Output start now silent calm added is rose = absurd (unlike _ rose (calm (λ e. cc) added is))
+line_0_ended TooMuchInput start now silent calm added is rose = absurd (unlike _ rose (calm (λ e. cc) added is))
+
+pub not_risen : {A : Type 0} (start now : View) (added : List Stamp) → rose_at (trace_of start now added) 0 ≡ true → rose_at (trace_of start now added) 0 ≡ false → A
+not_risen start now added rose calm = absurd (unlike _ rose calm)
+
+-- one whose line 0 was given did not
+pub line_0_begun : (ended : Type 0) (a b d : View) → HasBegun a b → TellsMore b d → FailsInLine0 ended a d
+line_0_begun ended a b d begun more added is rose = absurd (unlike _ rose (calm_begun a b d begun more added is))
+
+pub damaged_always : (r : Result (Unit {0}) Stop) (old new : View) (tells : Type 0) → ((r ≢ Err Damaged) → (r ≢ Err Device) → (r ≢ Err Memory) → tells → is_bootable (site_found 1 old.reads) ≡ true) → HasRunCounts r old new
     → tells → is_bootable (site_found 1 old.reads) ≡ false → (Rose old.faults new.faults → ⊥) → (status_for r ≡ status.Damaged 0) ⊎ (status_for r ≡ status.NoMemory)
 damaged_always (Ok x) old new tells bootable counts t none calm = absurd (unlike _ (bootable (λ e. cc) (λ e. cc) (λ e. cc) t) none)
 damaged_always (Err Damaged) old new tells bootable counts t none calm = inl refl
@@ -55,7 +50,7 @@ damaged_always (Err Output) old new tells bootable counts t none calm = absurd (
 damaged_always (Err Device) old new tells bootable counts t none calm = absurd (calm counts.device.rose)
 damaged_always (Err TooMuchInput) old new tells bootable counts t none calm = absurd (unlike _ (bootable (λ e. cc) (λ e. cc) (λ e. cc) t) none)
 
-pub complete : (r : Result (Unit {0}) Stop) (old new : View) (tells : Type 0) → (r ≡ Err Damaged → tells → is_bootable (site_found 1 old.reads) ≡ false) → HasCounts r old new
+pub complete : (r : Result (Unit {0}) Stop) (old new : View) (tells : Type 0) → (r ≡ Err Damaged → tells → is_bootable (site_found 1 old.reads) ≡ false) → HasRunCounts r old new
     → tells → is_bootable (site_found 1 old.reads) ≡ true → NoneRose old new → IsComplete (status_for r)
 complete (Ok x) old new tells damaged counts t can calm = tt
 complete (Err Damaged) old new tells damaged counts t can calm = unlike _ can (damaged refl t)
@@ -65,12 +60,21 @@ complete (Err Output) old new tells damaged counts t can calm = calm.output coun
 complete (Err Device) old new tells damaged counts t can calm = calm.device counts.device.rose
 complete (Err TooMuchInput) old new tells damaged counts t can calm = tt
 
-pub done : (r : Result (Unit {0}) Stop) (old new : View) (tells : Type 0) → OnOk r (tells → (found : Site) → site_found 1 old.reads ≡ Some found → IsSerial old new found)
-    → status_for r ≡ status.Done → tells → (found : Site) → site_found 1 old.reads ≡ Some found → IsDone old new found
-done (Ok x) old new tells serial e t found is = is_done old new found (serial t found is)
-done (Err Damaged) old new tells serial e t found is = absurd (cc)
-done (Err Memory) old new tells serial e t found is = absurd (cc)
-done (Err Input) old new tells serial e t found is = absurd (cc)
-done (Err Output) old new tells serial e t found is = absurd (cc)
-done (Err Device) old new tells serial e t found is = absurd (cc)
-done (Err TooMuchInput) old new tells serial e t found is = absurd (cc)
+pub done : (r : Result (Unit {0}) Stop) (D : Type 0) → OnOk r D → status_for r ≡ status.Done → D
+done (Ok x) D is e = is
+done (Err Damaged) D is e = absurd (cc)
+done (Err Memory) D is e = absurd (cc)
+done (Err Input) D is e = absurd (cc)
+done (Err Output) D is e = absurd (cc)
+done (Err Device) D is e = absurd (cc)
+done (Err TooMuchInput) D is e = absurd (cc)
+
+-- only a failed device ends a run with that status
+pub is_device : (r : Result (Unit {0}) Stop) → status_for r ≡ status.DeviceFault → r ≡ Err Device
+is_device (Ok x) e = absurd (cc)
+is_device (Err Damaged) e = absurd (cc)
+is_device (Err Memory) e = absurd (cc)
+is_device (Err Input) e = absurd (cc)
+is_device (Err Output) e = absurd (cc)
+is_device (Err Device) e = refl
+is_device (Err TooMuchInput) e = absurd (cc)

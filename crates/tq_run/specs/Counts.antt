@@ -48,3 +48,32 @@ StopCounts TooMuchInput old new = IsQuiet old new
 abbrev pub HasCounts : {T : Type 0} → Result T Stop → View → View → Type 0
 HasCounts (Ok x) old new = IsQuiet old new
 HasCounts (Err stop) old new = StopCounts stop old new
+
+-- No stream failed; devices may have.
+pub record IsCalm (old new : View) : Type 0 where
+  pub device : old.faults ≤ new.faults
+  pub input : new.streams.input_faults ≡ old.streams.input_faults
+  pub output : new.streams.output_faults ≡ old.streams.output_faults
+
+pub record LostInput (old new : View) : Type 0 where
+  pub device : old.faults ≤ new.faults
+  pub input : Rises old.streams.input_faults new.streams.input_faults
+  pub output : new.streams.output_faults ≡ old.streams.output_faults
+
+pub record LostOutput (old new : View) : Type 0 where
+  pub device : old.faults ≤ new.faults
+  pub input : new.streams.input_faults ≡ old.streams.input_faults
+  pub output : Rises old.streams.output_faults new.streams.output_faults
+
+-- The same of a run, whose lines go on after a device failed.
+abbrev pub RunStopCounts : Stop → View → View → Type 0
+RunStopCounts Device old new = RoseDevice old new
+RunStopCounts Input old new = LostInput old new
+RunStopCounts Output old new = LostOutput old new
+RunStopCounts Damaged old new = IsQuiet old new
+RunStopCounts Memory old new = IsCalm old new
+RunStopCounts TooMuchInput old new = IsCalm old new
+
+abbrev pub HasRunCounts : {T : Type 0} → Result T Stop → View → View → Type 0
+HasRunCounts (Ok x) old new = IsCalm old new
+HasRunCounts (Err stop) old new = RunStopCounts stop old new

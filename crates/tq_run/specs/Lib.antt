@@ -3,8 +3,9 @@ pub mod Words
 pub mod Manager
 pub mod Input
 pub mod Output
-pub mod Serial
 pub mod Ending
 pub mod Stops
 pub mod Spaces
 pub mod Calls
+pub mod Turns
+pub mod Standing

@@ -1,18 +1,17 @@
--- What is given.
-use Rattle.std.specs.Prelude.{◌≡◌, ◌≤◌, ℕ, List, ◌++◌, length, All}
-use Rattle.tq_host.specs.View.{View, Stamp, TakeStamp}
+-- What is given, and what is taken.
+use Rattle.std.specs.Prelude.{◌≡◌, ◌≤◌, List, ◌∷◌, ◌++◌}
+use Rattle.tq_host.specs.View.{View, Stamp}
 
--- This text was given, and with each byte of it the device count was as it had been.
-pub record GivesText (text : List ℕ) (old new : View) : Type 0 where
-  pub output : new.streams.output ≡ old.streams.output ++ text
-  pub added : List Stamp
-  pub stamps : new.streams.stamps ≡ old.streams.stamps ++ added
-  pub long : length added ≡ length text
-  pub steady : All (λ (s : Stamp). s.faults ≡ old.faults) added
+-- what was told with the output stays told
+abbrev pub TellsMore : View → View → Type 0
+TellsMore old new = (added : List Stamp) × (new.streams.stamps ≡ old.streams.stamps ++ added)
 
--- some text was given so
-abbrev pub GivesSome : View → View → Type 0
-GivesSome old new = (text : List ℕ) × GivesText text old new
+-- a first byte was given, and no device had failed until then
+pub record HasBegun (old new : View) : Type 0 where
+  pub first : Stamp
+  pub rest : List Stamp
+  pub stamps : new.streams.stamps ≡ old.streams.stamps ++ first ∷ rest
+  pub calm : first.faults ≡ old.faults
 
 -- the input is as it was
 pub record KeepsInput (old new : View) : Type 0 where

@@ -1,12 +1,12 @@
 -- What a stop leaves within the parts of a run.
-use Rattle.std.specs.Prelude.{◌≡◌, ◌⊎◌, ◌≤◌, ℕ, ◌+◌, ◌-◌, List, [], ◌∷◌, ◌++◌, length, take, Some}
+use Rattle.std.specs.Prelude.{◌≡◌, ◌⊎◌, ◌≤◌, ℕ, ◌+◌, ◌-◌, List, ◌++◌, length, take, Some, true, Any}
 use Rattle.tq_host.specs.View.{View, Picture, Stamp, AreNow}
 use Rattle.tq_model.specs.declared.request.Request.{Request}
 use Rattle.tq_model.specs.Site.{Site, durable}
 use Rattle.tq_model.specs.Reading.{site_found}
+use Rattle.tq_model.specs.Step.{can_boot, booted}
 use Rattle.tq_run.specs.declared.manager.Manager.{Manager}
 use Rattle.tq_run.specs.Manager.{IsOn}
-use Rattle.tq_run.specs.Serial.{site_after, lines_text}
 use Rattle.tq_model.specs.Grammar.{script_requests}
 use Rattle.tq_model.specs.Faulty.{StandForState, machine_after}
 use Rattle.tq_run.specs.Ending.{trace_of}
@@ -18,6 +18,14 @@ ImageStands s image = site_found 1 (λ d. image) ≡ Some (durable s)
 abbrev pub IsEither : Site → Site → List ℕ → Type 0
 IsEither s t image = ImageStands s image ⊎ ImageStands t image
 
+-- an image has what was found, or the boot of it
+abbrev pub IsFoundOrBooted : Site → List ℕ → Type 0
+IsFoundOrBooted found image = ImageStands found image ⊎ ((can_boot found ≡ true) × ImageStands (booted found) image)
+
+-- an image has a site of these, or the boot of the one that was found
+abbrev pub IsOldOrBooted : List Site → Site → List ℕ → Type 0
+IsOldOrBooted sites found image = Any (λ s. ImageStands s image) sites ⊎ ((can_boot found ≡ true) × ImageStands (booted found) image)
+
 -- each image that a stop may leave of device 0 has what the manager holds
 abbrev pub AreOn : Manager → View → Type 0
 AreOn m v = (c : List ℕ) → v.may_leave 0 c → IsOn m c
@@ -25,20 +33,6 @@ AreOn m v = (c : List ℕ) → v.may_leave 0 c → IsOn m c
 -- no image is one that was not there
 abbrev pub HasNoNewImage : View → View → Type 0
 HasNoNewImage old new = (d : ℕ) (c : List ℕ) → new.may_leave d c → old.may_leave d c
-
--- Device 0 stands for the site after some number of these lines, and their texts are given but for an end of the last one.
-pub record IsAtLine (s : Site) (n : ℕ) (requests : List Request) (before : List ℕ) (p : Picture) : Type 0 where
-  pub lines : ℕ
-  pub within : lines ≤ length requests
-  pub stand : ImageStands (site_after s (take lines requests)) (p.images 0)
-  pub given : ℕ
-  pub gave : p.output ≡ before ++ take given (lines_text n s (take lines requests))
-  pub answered : length (lines_text n s (take (lines - 1) requests)) ≤ given
-
--- a picture of a part of a run that answers these lines
-pub record IsStopped (s : Site) (n : ℕ) (requests : List Request) (start now : View) (p : Picture) : Type 0 where
-  pub at : IsAtLine s n requests start.streams.output p
-  pub shorter : length p.output ≤ length now.streams.output
 
 -- a picture of a part that changes nothing
 pub record IsWaiting (start : View) (p : Picture) : Type 0 where

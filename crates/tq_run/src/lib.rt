@@ -5,10 +5,12 @@ mod calls;
 mod devices;
 mod manager;
 mod queues;
+mod responding;
 mod running;
 mod script;
 mod serving;
 mod spaces;
+mod state;
 mod status;
 #[cfg(test)]
 mod tests;

@@ -1,12 +1,11 @@
-ghost use Rattle.std.specs.Prelude.{◌≡◌, ◌≢◌, ◌<◌, ◌≤◌, ◌+◌, List, ℕ, false, IfOk, IfErr, OnOk, Some, None};
+ghost use Rattle.std.specs.Prelude.{◌≡◌, ◌≢◌, ◌<◌, ◌≤◌, ◌+◌, List, ℕ, false, IfOk, IfErr, OnOk, Any, Some, None};
 ghost use Rattle.tq_host.specs.View.{IsSettled};
 ghost use Rattle.tq_host.specs.Within.{KeepsRest, Within};
 ghost use Rattle.tq_model.specs.Site.{Site};
-ghost use Rattle.tq_model.specs.Step.{booted};
 ghost use Rattle.tq_model.specs.Reading.{site_found};
 ghost use Rattle.tq_device.specs.Content.{IsFoundOn, IsFoundWithin, IsWithin, Stands, IsSameImage, IsAny, IsAnyStep};
 ghost use Rattle.tq_run.specs.Counts.{HasCounts};
-ghost use Rattle.tq_run.specs.Stops.{HasNoNewImage, AreOn, IsEither};
+ghost use Rattle.tq_run.specs.Stops.{HasNoNewImage, AreOn, ImageStands, IsFoundOrBooted, IsOldOrBooted};
 ghost use Rattle.tq_run.specs.Manager.{place_of, IsTogether, IsFit, IsOn, is_bootable, IsBooted, IsLoaded, IsRaised, loaded_site, stop_for};
 
 use crate::status::Stop;
@@ -46,6 +45,7 @@ fn look<H: Host>(host: &mut H) -> Result<Found, Stop>
     ensures still { (d : ℕ) → (H.view host.new).reads d ≡ (H.view host.old).reads d }
     ensures stop { Within 0 IsSameImage IsAny (H.view host.old) (H.view host.new) }
     ensures images { HasNoNewImage (H.view host.old) (H.view host.new) }
+    ensures settled { OnOk result (IsSettled 0 (H.view host.new)) }
     ensures counts { HasCounts result (H.view host.old) (H.view host.new) }
     ensures rest { KeepsRest 0 (H.view host.old) (H.view host.new) }
     ensures only { IfErr result (λ e. e ≡ Stop.Device) }
@@ -108,7 +108,7 @@ fn raise<H: Host>(
     ensures raised { IfOk result (λ m. H.tells.reads → IsRaised content.now file m ((H.view host.new).reads 0)) }
     ensures damaged { result ≡ Err Stop.Damaged → content.now.epoch ≡ 4294967295 }
     ensures untouched { result ≡ Err Stop.Damaged → host.new ≡ host.old }
-    ensures stop { ((c : List ℕ) → (H.view host.old).may_leave 0 c → IsLoaded content.now file c) → Within 0 IsAnyStep (IsEither (loaded_site content.now file) (booted (loaded_site content.now file))) (H.view host.old) (H.view host.new) }
+    ensures stop { ((c : List ℕ) → (H.view host.old).may_leave 0 c → IsLoaded content.now file c) → Within 0 IsAnyStep (IsFoundOrBooted (loaded_site content.now file)) (H.view host.old) (H.view host.new) }
     ensures on { IfOk result (λ m. H.tells.reads → AreOn m (H.view host.new)) }
     ensures counts { HasCounts result (H.view host.old) (H.view host.new) }
     ensures rest { KeepsRest 0 (H.view host.old) (H.view host.new) }
@@ -138,8 +138,9 @@ fn boot_content<H: Host>(
     ensures booted { IfOk result (λ m. H.tells.reads → IsBooted m (H.view host.old) (H.view host.new)) }
     ensures damaged { result ≡ Err Stop.Damaged → H.tells.reads → is_bootable (site_found 1 (H.view host.old).reads) ≡ false }
     ensures untouched { result ≡ Err Stop.Damaged → (d : ℕ) → (H.view host.new).reads d ≡ (H.view host.old).reads d }
-    ensures stop { H.tells.reads → IsSettled 0 (H.view host.old) → (found : Site) → site_found 1 (H.view host.old).reads ≡ Some found → Within 0 IsAnyStep (IsEither found (booted found)) (H.view host.old) (H.view host.new) }
-    ensures on { IfOk result (λ m. H.tells.reads → IsSettled 0 (H.view host.old) → AreOn m (H.view host.new)) }
+    ensures stop { H.tells.reads → IsSettled 0 (H.view host.old) → (found : Site) → site_found 1 (H.view host.old).reads ≡ Some found → Within 0 IsAnyStep (IsFoundOrBooted found) (H.view host.old) (H.view host.new) }
+    ensures images { result ≡ Err Stop.Damaged → HasNoNewImage (H.view host.old) (H.view host.new) }
+    ensures on { IfOk result (λ m. H.tells.reads → AreOn m (H.view host.new)) }
     ensures counts { HasCounts result (H.view host.old) (H.view host.new) }
     ensures rest { KeepsRest 0 (H.view host.old) (H.view host.new) }
     ensures three { IfErr result (λ e. (e ≢ Stop.Damaged) → (e ≢ Stop.Memory) → e ≡ Stop.Device) }
@@ -156,8 +157,10 @@ pub fn boot<H: Host>(alloc: Global, host: &mut H) -> Result<Manager, Stop>
     ensures booted { IfOk result (λ m. H.tells.reads → IsBooted m (H.view host.old) (H.view host.new)) }
     ensures damaged { result ≡ Err Stop.Damaged → H.tells.reads → is_bootable (site_found 1 (H.view host.old).reads) ≡ false }
     ensures untouched { result ≡ Err Stop.Damaged → (d : ℕ) → (H.view host.new).reads d ≡ (H.view host.old).reads d }
-    ensures stop { H.tells.reads → IsSettled 0 (H.view host.old) → (found : Site) → site_found 1 (H.view host.old).reads ≡ Some found → Within 0 IsAnyStep (IsEither found (booted found)) (H.view host.old) (H.view host.new) }
-    ensures on { IfOk result (λ m. H.tells.reads → IsSettled 0 (H.view host.old) → AreOn m (H.view host.new)) }
+    ensures stop { H.tells.reads → (sites : List Site) → ((image : List ℕ) → (H.view host.old).may_leave 0 image → Any (λ s. ImageStands s image) sites) → (found : Site) → site_found 1 (H.view host.old).reads ≡ Some found
+        → Within 0 IsAnyStep (IsOldOrBooted sites found) (H.view host.old) (H.view host.new) }
+    ensures on { IfOk result (λ m. H.tells.reads → AreOn m (H.view host.new)) }
+    ensures settled { result ≡ Err Stop.Damaged → H.tells.reads → (image : List ℕ) → (H.view host.new).may_leave 0 image → image ≡ (H.view host.old).reads 0 }
     ensures counts { HasCounts result (H.view host.old) (H.view host.new) }
     ensures rest { KeepsRest 0 (H.view host.old) (H.view host.new) }
     ensures three { IfErr result (λ e. (e ≢ Stop.Damaged) → (e ≢ Stop.Memory) → e ≡ Stop.Device) }

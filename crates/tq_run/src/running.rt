@@ -1,26 +1,29 @@
-ghost use Rattle.std.specs.Prelude.{◌≡◌, ◌≢◌, ◌⊎◌, ◌<◌, ◌≤◌, ◌+◌, ◌++◌, ◌↔◌, true, false, [], ◌∷◌, List, ℕ, map, string_bytes, OnOk, IfErr, None, Some};
+ghost use Rattle.std.specs.Prelude.{◌≡◌, ◌≢◌, ◌⊎◌, ◌<◌, ◌≤◌, ◌+◌, ◌++◌, ◌↔◌, true, false, [], ◌∷◌, List, ℕ, map, string_bytes, IfOk, OnOk, OnErr, IfErr, None, Some};
 ghost use Rattle.tq_host.specs.Calls.{HasCauseOf, Rose};
-ghost use Rattle.tq_host.specs.View.{TellsAll, Picture, IsSettled};
+ghost use Rattle.tq_host.specs.View.{TellsAll, Picture, Stamp, IsSettled, last};
 ghost use Rattle.tq_host.specs.Within.{Ran};
 ghost use Rattle.tq_model.specs.Step.{can_boot};
+ghost use Rattle.tq_model.specs.Faulty.{rose_at};
 ghost use Rattle.tq_model.specs.declared.request.Request.{Request};
 ghost use Rattle.tq_model.specs.declared.request.Request.TheVariants as requests;
-ghost use Rattle.tq_run.specs.Stops.{AreOn, IsStopped, IsOfRun};
+ghost use Rattle.tq_run.specs.Stops.{IsOfRun};
+ghost use Rattle.tq_run.specs.Turns.{Origin, origin_of, IsOfLines};
+ghost use Rattle.tq_run.specs.Standing.{IsSound, next_of, IsHeld, HasReached};
 ghost use Rattle.tq_model.specs.Site.{Site};
 ghost use Rattle.tq_model.specs.Grammar.{script_requests};
 ghost use Rattle.tq_model.specs.Reading.{site_found};
-ghost use Rattle.tq_run.specs.Counts.{NoneRose, HasCounts};
-ghost use Rattle.tq_run.specs.Ending.{IsDone, IsUntouched, IsDamaged, FailsInLine0, IsComplete, status_for};
+ghost use Rattle.tq_run.specs.Counts.{NoneRose, HasCounts, HasRunCounts};
+ghost use Rattle.tq_run.specs.Ending.{IsDone, IsUntouched, IsDamaged, FailsInLine0, IsComplete, status_for, trace_of};
 ghost use Rattle.tq_run.specs.Input.{IsRead};
-ghost use Rattle.tq_run.specs.Manager.{site_of, IsOn, IsFit, is_bootable};
-ghost use Rattle.tq_run.specs.Output.{GivesText, GivesSome, KeepsInput};
-ghost use Rattle.tq_run.specs.Serial.{site_after, lines_text, IsSerial};
+ghost use Rattle.tq_run.specs.Manager.{is_bootable};
+ghost use Rattle.tq_run.specs.Output.{TellsMore, HasBegun, KeepsInput};
 ghost use Rattle.tq_run.specs.Words.{device_word};
 
 use crate::devices::readiness;
-use crate::manager::{Manager, boot};
+use crate::manager::boot;
 use crate::script::read_script;
 use crate::serving::{give_answer, serve_lines};
+use crate::state::State;
 use crate::status::{Status, Stop};
 use crate::words::device_path;
 use std::alloc::Global;
@@ -33,50 +36,77 @@ const MOST_INPUT: u64 = 4294967296;
 fn answer_script<H: Host>(
     alloc: Global,
     host: &mut H,
-    manager: &mut Manager,
+    state: &mut State,
     limit: u64,
 ) -> Result<(), Stop>
     requires limit { 0 < limit }
     requires most { limit ≤ 4294967296 }
-    requires fit { IsFit manager.old }
-    requires first { manager.old.next ≡ 0 }
-    requires holds { H.tells.reads → IsOn manager.old ((H.view host.old).reads 0) }
+    requires sound { IsSound state.old }
+    requires first { next_of state.old ≡ 0 }
+    requires holds { H.tells.reads → IsHeld state.old ((H.view host.old).reads 0) }
     ensures left { OnOk result (H.tells.script → (H.view host.new).streams.script ≡ []) }
-    ensures site { OnOk result (H.tells.script → site_of manager.new ≡ site_after (site_of manager.old) (script_requests (H.view host.old).streams.script)) }
-    ensures holds { OnOk result (H.tells.reads → IsOn manager.new ((H.view host.new).reads 0)) }
-    ensures gave { OnOk result (H.tells.script → H.tells.output → GivesText (lines_text 1 (site_of manager.old) (script_requests (H.view host.old).streams.script)) (H.view host.old) (H.view host.new)) }
-    ensures some { H.tells.output → GivesSome (H.view host.old) (H.view host.new) }
+    ensures reached { OnOk result (TellsAll H.tells → (H.view host.new).faults < last → (o : Origin) (found : Site) (first : Request)
+        → HasReached o found (first ∷ []) state.old (H.view host.old) → HasReached o found (first ∷ script_requests (H.view host.old).streams.script) state.new (H.view host.new)) }
+    ensures stop { TellsAll H.tells → (H.view host.new).faults < last → (o : Origin) (found : Site) (first : Request)
+        → HasReached o found (first ∷ []) state.old (H.view host.old) → Ran (IsOfLines o (H.view host.new) found (first ∷ script_requests (H.view host.old).streams.script)) (H.view host.old) (H.view host.new) }
+    ensures told { H.tells.output → TellsMore (H.view host.old) (H.view host.new) }
     ensures much { result ≡ Err Stop.TooMuchInput → H.tells.output → (H.view host.new).streams.taken ≡ (H.view host.old).streams.taken + limit }
     ensures less { (result ≢ Err Stop.TooMuchInput) → (result ≢ Err Stop.Memory) → H.tells.output → (H.view host.new).streams.taken < (H.view host.old).streams.taken + limit }
     ensures most { H.tells.output → (H.view host.new).streams.taken ≤ (H.view host.old).streams.taken + limit }
-    ensures stop { H.tells.reads → H.tells.script → H.tells.output → AreOn manager.old (H.view host.old) → Ran (IsStopped (site_of manager.old) 1 (script_requests (H.view host.old).streams.script) (H.view host.old) (H.view host.new)) (H.view host.old) (H.view host.new) }
-    ensures counts { HasCounts result (H.view host.old) (H.view host.new) }
-    ensures undamaged { result ≢ Err Stop.Damaged }
+    ensures later { (H.view host.old).faults ≤ (H.view host.new).faults }
+    ensures counts { HasRunCounts result (H.view host.old) (H.view host.new) }
+    ensures lines { (result ≢ Err Stop.Damaged) × (result ≢ Err Stop.Device) }
 {
     let script = read_script(alloc, host, limit)?;
-    serve_lines(alloc, host, manager, &script)
+    serve_lines(alloc, host, state, &script)
+}
+
+// Line 0: a boot of what device 0 stands for.
+fn begin<H: Host>(alloc: Global, path: &str, host: &mut H) -> Result<State, Stop>
+    ensures sound { IfOk result IsSound }
+    ensures first { IfOk result (λ state. next_of state ≡ 0) }
+    ensures holds { IfOk result (λ state. H.tells.reads → IsHeld state ((H.view host.new).reads 0)) }
+    ensures reached { IfOk result (λ state. TellsAll H.tells → (found : Site) → site_found 1 (H.view host.old).reads ≡ Some found
+        → HasReached (origin_of (H.view host.old)) found (requests.Boot ∷ []) state (H.view host.new)) }
+    ensures stop { TellsAll H.tells → (H.view host.new).faults < last → IsSettled 0 (H.view host.old) → (found : Site) → site_found 1 (H.view host.old).reads ≡ Some found → can_boot found ≡ true
+        → Ran (IsOfLines (origin_of (H.view host.old)) (H.view host.new) found (requests.Boot ∷ [])) (H.view host.old) (H.view host.new) }
+    ensures damaged { result ≡ Err Stop.Damaged → H.tells.reads → is_bootable (site_found 1 (H.view host.old).reads) ≡ false }
+    ensures untouched { result ≡ Err Stop.Damaged → IsUntouched (H.view host.old) (H.view host.new) }
+    ensures bootable { (result ≢ Err Stop.Damaged) → (result ≢ Err Stop.Device) → (result ≢ Err Stop.Memory) → H.tells.reads → is_bootable (site_found 1 (H.view host.old).reads) ≡ true }
+    ensures told { H.tells.output → TellsMore (H.view host.old) (H.view host.new) }
+    ensures begun { OnOk result (H.tells.output → HasBegun (H.view host.old) (H.view host.new)) }
+    ensures calm { OnErr result ((result ≢ Err Stop.Device) → H.tells.output → (added : List Stamp) → (H.view host.new).streams.stamps ≡ (H.view host.old).streams.stamps ++ added → rose_at (trace_of (H.view host.old) (H.view host.new) added) 0 ≡ false) }
+    ensures silent { result ≡ Err Stop.Device → (H.view host.new).streams.output ≡ (H.view host.old).streams.output }
+    ensures input { KeepsInput (H.view host.old) (H.view host.new) }
+    ensures counts { HasCounts result (H.view host.old) (H.view host.new) }
+    ensures four { IfErr result (λ e. (e ≢ Stop.Damaged) → (e ≢ Stop.Device) → (e ≢ Stop.Memory) → e ≡ Stop.Output) }
+{
+    host.attach(0, path).map_err(|_| Stop::Device)?;
+    let manager = boot(alloc, host)?;
+    give_answer(alloc, host, 0, &readiness(&manager))?;
+    Ok(State::Up(manager))
 }
 
 // A run over one device: a boot, which is line 0, and the lines of the script, of which at most `limit` bytes are read.
 fn attend<H: Host>(alloc: Global, path: &str, host: &mut H, limit: u64) -> Result<(), Stop>
     requires some { 0 < limit }
     requires most { limit ≤ 4294967296 }
-    ensures done { OnOk result (TellsAll H.tells → (found : Site) → site_found 1 (H.view host.old).reads ≡ Some found → IsSerial (H.view host.old) (H.view host.new) found) }
+    ensures done { OnOk result (TellsAll H.tells → (H.view host.new).faults < last → (found : Site) → site_found 1 (H.view host.old).reads ≡ Some found → IsDone (H.view host.old) (H.view host.new) found) }
     ensures damaged { result ≡ Err Stop.Damaged → H.tells.reads → is_bootable (site_found 1 (H.view host.old).reads) ≡ false }
     ensures untouched { result ≡ Err Stop.Damaged → IsUntouched (H.view host.old) (H.view host.new) }
     ensures bootable { (result ≢ Err Stop.Damaged) → (result ≢ Err Stop.Device) → (result ≢ Err Stop.Memory) → H.tells.reads → is_bootable (site_found 1 (H.view host.old).reads) ≡ true }
-    ensures some { H.tells.output → GivesSome (H.view host.old) (H.view host.new) }
+    ensures line_0 { H.tells.output → FailsInLine0 (result ≡ Err Stop.Device) (H.view host.old) (H.view host.new) }
+    ensures silent { result ≡ Err Stop.Device → (H.view host.new).streams.output ≡ (H.view host.old).streams.output }
     ensures much { result ≡ Err Stop.TooMuchInput → H.tells.output → (H.view host.new).streams.taken ≡ (H.view host.old).streams.taken + limit }
     ensures less { (result ≢ Err Stop.TooMuchInput) → (result ≢ Err Stop.Memory) → H.tells.output → (H.view host.new).streams.taken < (H.view host.old).streams.taken + limit }
     ensures most { H.tells.output → (H.view host.new).streams.taken ≤ (H.view host.old).streams.taken + limit }
-    ensures stop { TellsAll H.tells → IsSettled 0 (H.view host.old) → (found : Site) → site_found 1 (H.view host.old).reads ≡ Some found → can_boot found ≡ true
-        → Ran (IsStopped found 0 (requests.Boot ∷ script_requests (H.view host.old).streams.script) (H.view host.old) (H.view host.new)) (H.view host.old) (H.view host.new) }
-    ensures counts { HasCounts result (H.view host.old) (H.view host.new) }
+    ensures stop { TellsAll H.tells → (H.view host.new).faults < last → IsSettled 0 (H.view host.old) → (found : Site) → site_found 1 (H.view host.old).reads ≡ Some found → can_boot found ≡ true
+        → Ran (IsOfLines (origin_of (H.view host.old)) (H.view host.new) found (requests.Boot ∷ script_requests (H.view host.old).streams.script)) (H.view host.old) (H.view host.new) }
+    ensures told { H.tells.output → TellsMore (H.view host.old) (H.view host.new) }
+    ensures counts { HasRunCounts result (H.view host.old) (H.view host.new) }
 {
-    host.attach(0, path).map_err(|_| Stop::Device)?;
-    let mut manager = boot(alloc, host)?;
-    give_answer(alloc, host, 0, &readiness(&manager))?;
-    answer_script(alloc, host, &mut manager, limit)
+    let mut state = begin(alloc, path, host)?;
+    answer_script(alloc, host, &mut state, limit)
 }
 
 // The status of an ending.
@@ -104,13 +134,13 @@ pub fn run_within<H: Host>(alloc: Global, words: &[String], host: &mut H, limit:
     ensures damaged_always { result ≢ Status.Usage → H.tells.reads → is_bootable (site_found 1 (H.view host.old).reads) ≡ false → (Rose (H.view host.old).faults (H.view host.new).faults → ⊥) → (result ≡ Status.Damaged 0) ⊎ (result ≡ Status.NoMemory) }
     ensures read_fault { HasCauseOf (result ≡ Status.ReadFault) (H.view host.old).streams.input_faults (H.view host.new).streams.input_faults }
     ensures write_fault { HasCauseOf (result ≡ Status.WriteFault) (H.view host.old).streams.output_faults (H.view host.new).streams.output_faults }
-    ensures device_fault { HasCauseOf (result ≡ Status.DeviceFault) (H.view host.old).faults (H.view host.new).faults }
+    ensures device_fault { result ≡ Status.DeviceFault → Rose (H.view host.old).faults (H.view host.new).faults × ((H.view host.new).streams.output ≡ (H.view host.old).streams.output) }
     ensures line_0 { H.tells.output → FailsInLine0 (result ≡ Status.DeviceFault) (H.view host.old) (H.view host.new) }
     ensures too_much { result ≡ Status.TooMuchInput → H.tells.output → (H.view host.new).streams.taken ≡ (H.view host.old).streams.taken + limit }
     ensures too_much_always { H.tells.output → (H.view host.new).streams.taken ≡ (H.view host.old).streams.taken + limit → (result ≡ Status.TooMuchInput) ⊎ (result ≡ Status.NoMemory) }
     ensures most { H.tells.output → (H.view host.new).streams.taken ≤ (H.view host.old).streams.taken + limit }
-    ensures done { result ≡ Status.Done → TellsAll H.tells → (found : Site) → site_found 1 (H.view host.old).reads ≡ Some found → IsDone (H.view host.old) (H.view host.new) found }
-    ensures stop { TellsAll H.tells → IsSettled 0 (H.view host.old) → (found : Site) → site_found 1 (H.view host.old).reads ≡ Some found → can_boot found ≡ true
+    ensures done { result ≡ Status.Done → TellsAll H.tells → (H.view host.new).faults < last → (found : Site) → site_found 1 (H.view host.old).reads ≡ Some found → IsDone (H.view host.old) (H.view host.new) found }
+    ensures stop { TellsAll H.tells → (H.view host.new).faults < last → IsSettled 0 (H.view host.old) → (found : Site) → site_found 1 (H.view host.old).reads ≡ Some found → can_boot found ≡ true
         → (p : Picture) → (H.view host.new).left_since (H.view host.old).clock p → IsOfRun (H.view host.old) (H.view host.new) found p }
     ensures complete { result ≢ Status.Usage → H.tells.reads → is_bootable (site_found 1 (H.view host.old).reads) ≡ true → NoneRose (H.view host.old) (H.view host.new) → IsComplete result }
 {
@@ -137,7 +167,7 @@ pub fn run<H: Host>(alloc: Global, words: &[String], host: &mut H) -> Status
     // The host failed, each way exactly where its count rose.
     ensures read_fault { HasCauseOf (result ≡ Status.ReadFault) (H.view host.old).streams.input_faults (H.view host.new).streams.input_faults }
     ensures write_fault { HasCauseOf (result ≡ Status.WriteFault) (H.view host.old).streams.output_faults (H.view host.new).streams.output_faults }
-    ensures device_fault { HasCauseOf (result ≡ Status.DeviceFault) (H.view host.old).faults (H.view host.new).faults }
+    ensures device_fault { result ≡ Status.DeviceFault → Rose (H.view host.old).faults (H.view host.new).faults × ((H.view host.new).streams.output ≡ (H.view host.old).streams.output) }
     ensures line_0 { H.tells.output → FailsInLine0 (result ≡ Status.DeviceFault) (H.view host.old) (H.view host.new) }
 
     // 4,294,967,296 bytes were taken, and the script did not end before.
@@ -146,11 +176,11 @@ pub fn run<H: Host>(alloc: Global, words: &[String], host: &mut H) -> Status
     ensures most { H.tells.output → (H.view host.new).streams.taken ≤ (H.view host.old).streams.taken + 4294967296 }
 
     // The whole run is the machine's.
-    ensures done { result ≡ Status.Done → TellsAll H.tells → (found : Site) → site_found 1 (H.view host.old).reads ≡ Some found → IsDone (H.view host.old) (H.view host.new) found }
+    ensures done { result ≡ Status.Done → TellsAll H.tells → (H.view host.new).faults < last → (found : Site) → site_found 1 (H.view host.old).reads ≡ Some found → IsDone (H.view host.old) (H.view host.new) found }
 
     // At every stop within the run, the device stands for the machine after some number of whole lines, as many as were
     // answered or one more, and the output is a first part of the text of these.
-    ensures stop { TellsAll H.tells → IsSettled 0 (H.view host.old) → (found : Site) → site_found 1 (H.view host.old).reads ≡ Some found → can_boot found ≡ true
+    ensures stop { TellsAll H.tells → (H.view host.new).faults < last → IsSettled 0 (H.view host.old) → (found : Site) → site_found 1 (H.view host.old).reads ≡ Some found → can_boot found ≡ true
         → (p : Picture) → (H.view host.new).left_since (H.view host.old).clock p → IsOfRun (H.view host.old) (H.view host.new) found p }
 
     // Where nothing stands against it, the run is done.

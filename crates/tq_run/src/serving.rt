@@ -1,5 +1,6 @@
 ghost use Rattle.std.specs.Prelude.{◌≡◌, ◌≢◌, ◌<◌, ◌≤◌, ◌+◌, ◌++◌, [], ◌∷◌, List, ℕ, length, IfOk, IfErr, OnOk};
-ghost use Rattle.tq_host.specs.Calls.{IsGiving};
+ghost use Rattle.tq_host.specs.View.{TellsAll, last};
+ghost use Rattle.tq_host.specs.Calls.{IsGiven, IsGiving};
 ghost use Rattle.tq_host.specs.Within.{KeepsRest, Within, Ran};
 ghost use Rattle.tq_model.specs.declared.request.Request.{Request};
 ghost use Rattle.tq_model.specs.declared.request.CallRequest.{CallRequest};
@@ -7,16 +8,20 @@ ghost use Rattle.tq_model.specs.Step.{step};
 ghost use Rattle.tq_model.specs.Text.{line_text};
 ghost use Rattle.tq_model.specs.Grammar.{line_request, script_requests};
 ghost use Rattle.tq_device.specs.Content.{IsAnyStep};
-ghost use Rattle.tq_run.specs.Counts.{HasCounts};
-ghost use Rattle.tq_run.specs.Stops.{AreOn, HasNoNewImage, IsEither, IsStopped};
+ghost use Rattle.tq_run.specs.Counts.{HasCounts, HasRunCounts};
+ghost use Rattle.tq_run.specs.Stops.{AreOn, HasNoNewImage, IsEither};
+ghost use Rattle.tq_run.specs.Turns.{Origin, IsOfLines};
+ghost use Rattle.tq_run.specs.Standing.{IsSound, next_of, IsHeld, HasReached};
 ghost use Rattle.tq_run.specs.Manager.{site_of, IsOn, IsFit};
-ghost use Rattle.tq_run.specs.Serial.{site_after, lines_text};
-ghost use Rattle.tq_run.specs.Output.{GivesText, GivesSome, KeepsInput};
+ghost use Rattle.tq_run.specs.Output.{TellsMore, KeepsInput};
+ghost use Rattle.tq_model.specs.Site.{Site};
 
 use crate::calls::serve_call;
 use crate::devices::serve_device;
 use crate::manager::Manager;
+use crate::responding::respond;
 use crate::spaces::serve_space;
+use crate::state::State;
 use crate::status::Stop;
 use std::alloc::Global;
 use tq_host::Host;
@@ -30,10 +35,11 @@ pub fn give_answer<H: Host>(
     line: u64,
     answer: &Answer,
 ) -> Result<(), Stop>
-    ensures gave { OnOk result (H.tells.output → GivesText (line_text line answer.now) (H.view host.old) (H.view host.new)) }
-    ensures some { H.tells.output → GivesSome (H.view host.old) (H.view host.new) }
+    ensures gave { OnOk result (H.tells.output → IsGiven (length (line_text line answer.now)) (line_text line answer.now) (H.view host.old) (H.view host.new)) }
+    ensures some { H.tells.output → (k : ℕ) × IsGiven k (line_text line answer.now) (H.view host.old) (H.view host.new) }
     ensures input { KeepsInput (H.view host.old) (H.view host.new) }
     ensures still { (d : ℕ) → (H.view host.new).reads d ≡ (H.view host.old).reads d }
+    ensures faults { (H.view host.new).faults ≡ (H.view host.old).faults }
     ensures gives { Ran (IsGiving (line_text line answer.now) (H.view host.old) (H.view host.new)) (H.view host.old) (H.view host.new) }
     ensures images { HasNoNewImage (H.view host.old) (H.view host.new) }
     ensures counts { HasCounts result (H.view host.old) (H.view host.new) }
@@ -75,8 +81,8 @@ fn serve_other<H: Host>(
     }
 }
 
-// Does what a line asks for.
-fn serve<H: Host>(
+/// Does what a line other than a boot asks for.
+pub fn serve<H: Host>(
     alloc: Global,
     host: &mut H,
     manager: &mut Manager,
@@ -107,53 +113,55 @@ fn serve<H: Host>(
 fn serve_line<H: Host>(
     alloc: Global,
     host: &mut H,
-    manager: &mut Manager,
+    state: &mut State,
     number: u64,
     line: &[u8],
 ) -> Result<(), Stop>
-    requires fit { IsFit manager.old }
-    requires next { manager.old.next < 4294967295 }
-    requires holds { H.tells.reads → IsOn manager.old ((H.view host.old).reads 0) }
-    ensures site { OnOk result (site_of manager.new ≡ (step (site_of manager.old) (line_request line.now)).site) }
-    ensures next { OnOk result (manager.new.next ≤ manager.old.next + 1) }
-    ensures fit { OnOk result (IsFit manager.new) }
-    ensures holds { OnOk result (H.tells.reads → IsOn manager.new ((H.view host.new).reads 0)) }
-    ensures gave { OnOk result (H.tells.output → GivesText (line_text number (step (site_of manager.old) (line_request line.now)).answer) (H.view host.old) (H.view host.new)) }
-    ensures some { H.tells.output → GivesSome (H.view host.old) (H.view host.new) }
+    requires sound { IsSound state.old }
+    requires next { next_of state.old < 4294967295 }
+    requires holds { H.tells.reads → IsHeld state.old ((H.view host.old).reads 0) }
+    ensures sound { OnOk result (IsSound state.new) }
+    ensures next { OnOk result (next_of state.new ≤ next_of state.old + 1) }
+    ensures holds { OnOk result (H.tells.reads → IsHeld state.new ((H.view host.new).reads 0)) }
+    ensures reached { OnOk result (TellsAll H.tells → (H.view host.new).faults < last → (o : Origin) (found : Site) (done : List Request) → number ≡ length done
+        → HasReached o found done state.old (H.view host.old) → HasReached o found (done ++ line_request line.now ∷ []) state.new (H.view host.new)) }
+    ensures stop { TellsAll H.tells → (H.view host.new).faults < last → (o : Origin) (found : Site) (done : List Request) → number ≡ length done
+        → HasReached o found done state.old (H.view host.old) → Ran (IsOfLines o (H.view host.new) found (done ++ line_request line.now ∷ [])) (H.view host.old) (H.view host.new) }
+    ensures told { H.tells.output → TellsMore (H.view host.old) (H.view host.new) }
     ensures input { KeepsInput (H.view host.old) (H.view host.new) }
-    ensures stop { H.tells.reads → H.tells.output → AreOn manager.old (H.view host.old) → (more : List Request) → Ran (IsStopped (site_of manager.old) number (line_request line.now ∷ more) (H.view host.old) (H.view host.new)) (H.view host.old) (H.view host.new) }
-    ensures images { OnOk result (H.tells.reads → AreOn manager.old (H.view host.old) → AreOn manager.new (H.view host.new)) }
-    ensures counts { HasCounts result (H.view host.old) (H.view host.new) }
-    ensures three { IfErr result (λ e. (e ≢ Stop.Memory) → (e ≢ Stop.Device) → e ≡ Stop.Output) }
+    ensures later { (H.view host.old).faults ≤ (H.view host.new).faults }
+    ensures counts { HasRunCounts result (H.view host.old) (H.view host.new) }
+    ensures two { IfErr result (λ e. (e ≢ Stop.Memory) → e ≡ Stop.Output) }
 {
     let request = parse(alloc, line).map_err(|_| Stop::Memory)?;
-    let answer = serve(alloc, host, manager, request)?;
+    let answer = respond(alloc, host, state, request)?;
     give_answer(alloc, host, number, &answer)
 }
 
-/// Answers the lines of a script, from line 1 on.
+/// Answers the lines of a script, from line 1 on, in whatever state the run is.
 pub fn serve_lines<H: Host>(
     alloc: Global,
     host: &mut H,
-    manager: &mut Manager,
+    state: &mut State,
     script: &[u8],
 ) -> Result<(), Stop>
-    requires fit { IsFit manager.old }
-    requires numbers { manager.old.next + length script.now ≤ 4294967295 }
-    requires holds { H.tells.reads → IsOn manager.old ((H.view host.old).reads 0) }
-    ensures site { OnOk result (site_of manager.new ≡ site_after (site_of manager.old) (script_requests script.now)) }
-    ensures holds { OnOk result (H.tells.reads → IsOn manager.new ((H.view host.new).reads 0)) }
-    ensures gave { OnOk result (H.tells.output → GivesText (lines_text 1 (site_of manager.old) (script_requests script.now)) (H.view host.old) (H.view host.new)) }
-    ensures some { H.tells.output → GivesSome (H.view host.old) (H.view host.new) }
+    requires sound { IsSound state.old }
+    requires numbers { next_of state.old + length script.now ≤ 4294967295 }
+    requires holds { H.tells.reads → IsHeld state.old ((H.view host.old).reads 0) }
+    ensures reached { OnOk result (TellsAll H.tells → (H.view host.new).faults < last → (o : Origin) (found : Site) (first : Request)
+        → HasReached o found (first ∷ []) state.old (H.view host.old) → HasReached o found (first ∷ script_requests script.now) state.new (H.view host.new)) }
+    ensures stop { TellsAll H.tells → (H.view host.new).faults < last → (o : Origin) (found : Site) (first : Request)
+        → HasReached o found (first ∷ []) state.old (H.view host.old) → Ran (IsOfLines o (H.view host.new) found (first ∷ script_requests script.now)) (H.view host.old) (H.view host.new) }
+    ensures told { H.tells.output → TellsMore (H.view host.old) (H.view host.new) }
     ensures input { KeepsInput (H.view host.old) (H.view host.new) }
-    ensures stop { H.tells.reads → H.tells.output → AreOn manager.old (H.view host.old) → Ran (IsStopped (site_of manager.old) 1 (script_requests script.now) (H.view host.old) (H.view host.new)) (H.view host.old) (H.view host.new) }
-    ensures counts { HasCounts result (H.view host.old) (H.view host.new) }
-    ensures three { IfErr result (λ e. (e ≢ Stop.Memory) → (e ≢ Stop.Device) → e ≡ Stop.Output) }
+    ensures later { (H.view host.old).faults ≤ (H.view host.new).faults }
+    ensures counts { HasRunCounts result (H.view host.old) (H.view host.new) }
+    ensures two { IfErr result (λ e. (e ≢ Stop.Memory) → e ≡ Stop.Output) }
 {
     let mut rest = script;
     let mut number = 1;
     while let Some((line, behind)) = first_line(rest) {
-        serve_line(alloc, host, manager, number, line)?;
+        serve_line(alloc, host, state, number, line)?;
         number += 1;
         rest = behind;
     }

@@ -1,16 +1,14 @@
-use Rattle.std.proofs.Common.{◌≡◌, ◌<◌, ◌∙◌, List, ℕ, length, subst, ap, sym}
+use Rattle.std.proofs.Common.{◌<◌, ◌∙◌, List, ℕ, length, subst, ap, sym}
 use Rattle.std.proofs.lemmas.Result.{IfOk-weaker}
-use Rattle.tq_model.specs.Step.{booted}
 use Rattle.tq_device.specs.declared.content.Found.{Found}
 use Rattle.tq_device.specs.Content.{IsFoundOn, IsFoundWithin, Stands}
 use Rattle.tq_run.proofs.FoundLemmas.{booted_blank, damaged_device, none_not_bootable}
-use Rattle.tq_run.proofs.Attending.{same_found}
 use Rattle.tq_run.specs.Manager.{is_bootable}
-use Rattle.tq_run.proofs.Booting.{only_looking, looking_booting, booted_from, settled_from}
+use Rattle.tq_run.proofs.Booting.{still_old, looking_booting, booted_from, same_found}
 use Rattle.tq_run.proofs.manager.boot.Goals as goal
 
 pub returns-in_err-look-clause-stop : goal.returns-in_err-look-clause-stop
-returns-in_err-look-clause-stop g c = λ t settled found is. only_looking found (booted found) (g.H.Host.view c.args.host.now) (g.H.Host.view c.look.new.host) settled is c.look.ensures.stop
+returns-in_err-look-clause-stop g c = λ t sites stand found is. still_old sites found (g.H.Host.view c.args.host.now) (g.H.Host.view c.look.new.host) stand c.look.ensures.stop
 
 pub returns-in-Blank-clause-booted : goal.returns-in-Blank-clause-booted
 returns-in-Blank-clause-booted g c = λ t.
@@ -18,13 +16,13 @@ returns-in-Blank-clause-booted g c = λ t.
     booted_blank (g.H.Host.view c.args.host.now) (g.H.Host.view c.look.new.host) (subst (λ (f : Found). IsFoundOn f image) c.in-Blank.is (c.in_ok-look.ensures.found t)) (c.look.ensures.still 0)
 
 pub returns-in-Blank-clause-stop : goal.returns-in-Blank-clause-stop
-returns-in-Blank-clause-stop g c = λ t settled found is. only_looking found (booted found) (g.H.Host.view c.args.host.now) (g.H.Host.view c.look.new.host) settled is c.look.ensures.stop
+returns-in-Blank-clause-stop g c = λ t sites stand found is. still_old sites found (g.H.Host.view c.args.host.now) (g.H.Host.view c.look.new.host) stand c.look.ensures.stop
 
 pub returns-in-Blank-clause-on : goal.returns-in-Blank-clause-on
-returns-in-Blank-clause-on g c = λ t settled. λ image may.
+returns-in-Blank-clause-on g c = λ t image may.
     let read = (g.H.Host.view c.args.host.now).reads 0 in
     let short : length read < 131072 = subst (λ (f : Found). IsFoundOn f read) c.in-Blank.is (c.in_ok-look.ensures.found t) in
-    subst (λ (l : List ℕ). length l < 131072) (sym (settled image (c.look.ensures.images 0 image may))) short
+    subst (λ (l : List ℕ). length l < 131072) (sym (c.in_ok-look.ensures.settled image may ∙ c.look.ensures.still 0)) short
 
 pub boot_content-requires-clause-named : goal.boot_content-requires-clause-named
 boot_content-requires-clause-named g c = subst IsFoundWithin c.in-Holds.is c.in_ok-look.ensures.within
@@ -40,7 +38,10 @@ returns-in-Damaged-clause-damaged g c = λ e t.
     none_not_bootable images (damaged_device images (subst (λ (f : Found). IsFoundOn f (images 0)) c.in-Damaged.is (c.in_ok-look.ensures.found t)))
 
 pub returns-in-Damaged-clause-stop : goal.returns-in-Damaged-clause-stop
-returns-in-Damaged-clause-stop g c = λ t settled found is. only_looking found (booted found) (g.H.Host.view c.args.host.now) (g.H.Host.view c.look.new.host) settled is c.look.ensures.stop
+returns-in-Damaged-clause-stop g c = λ t sites stand found is. still_old sites found (g.H.Host.view c.args.host.now) (g.H.Host.view c.look.new.host) stand c.look.ensures.stop
+
+pub returns-in-Damaged-clause-settled : goal.returns-in-Damaged-clause-settled
+returns-in-Damaged-clause-settled g c = λ e t image may. c.in_ok-look.ensures.settled image may ∙ c.look.ensures.still 0
 
 pub returns-in-Holds-clause-booted : goal.returns-in-Holds-clause-booted
 returns-in-Holds-clause-booted g c =
@@ -54,10 +55,8 @@ returns-in-Holds-clause-damaged g c = λ e t.
     ap is_bootable (sym (same_found b a (c.look.ensures.still 0))) ∙ c.boot_content.ensures.damaged e t
 
 pub returns-in-Holds-clause-stop : goal.returns-in-Holds-clause-stop
-returns-in-Holds-clause-stop g c = λ t settled found is.
-    looking_booting found (g.H.Host.view c.args.host.now) (g.H.Host.view c.look.new.host) (g.H.Host.view c.boot_content.new.host) settled is c.look.ensures.stop c.look.ensures.images (c.look.ensures.still 0) (c.boot_content.ensures.stop t)
+returns-in-Holds-clause-stop g c = λ t sites stand found is.
+    looking_booting sites found (g.H.Host.view c.args.host.now) (g.H.Host.view c.look.new.host) stand c.look.ensures.stop (g.H.Host.view c.boot_content.new.host) is c.look.ensures.images (c.look.ensures.still 0) c.in_ok-look.ensures.settled (c.boot_content.ensures.stop t)
 
-pub returns-in-Holds-clause-on : goal.returns-in-Holds-clause-on
-returns-in-Holds-clause-on g c =
-    IfOk-weaker c.boot_content.result _ _
-    (λ m on. λ t settled. on t (settled_from (g.H.Host.view c.args.host.now) (g.H.Host.view c.look.new.host) settled c.look.ensures.images (c.look.ensures.still 0))) c.boot_content.ensures.on
+pub returns-in-Holds-clause-settled : goal.returns-in-Holds-clause-settled
+returns-in-Holds-clause-settled g c = λ e t image may. c.in_ok-look.ensures.settled image (c.boot_content.ensures.images e 0 image may) ∙ c.look.ensures.still 0

@@ -1,14 +1,12 @@
-use Rattle.std.proofs.Common.{◌≡◌, ◌∙◌, List, ℕ, Option, Some, Result, subst, ap, sym}
+use Rattle.std.proofs.Common.{List, ℕ, subst, sym}
 use Rattle.std.proofs.lemmas.Result.{IfOk-weaker}
-use Rattle.tq_model.specs.Step.{booted}
-use Rattle.tq_spacefile.specs.declared.file.SpaceFile.{SpaceFile}
 use Rattle.tq_run.specs.Manager.{IsLoaded}
-use Rattle.tq_run.proofs.FoundLemmas.{booted_raised, last_not_bootable, none_not_bootable}
+use Rattle.tq_run.proofs.FoundLemmas.{booted_raised, last_not_bootable}
 use Rattle.tq_run.proofs.Booting.{only_looking, looking_raising}
 use Rattle.tq_run.proofs.manager.boot_content.Goals as goal
 
 pub returns-in_err-file-clause-stop : goal.returns-in_err-file-clause-stop
-returns-in_err-file-clause-stop g c = λ t settled found is. only_looking found (booted found) (g.H.Host.view c.args.host.now) (g.H.Host.view c.load_space.new.host) settled is c.load_space.ensures.stop
+returns-in_err-file-clause-stop g c = λ t settled found is. only_looking found (g.H.Host.view c.args.host.now) (g.H.Host.view c.load_space.new.host) settled is c.load_space.ensures.stop
 
 pub raise-requires-clause-holds : goal.raise-requires-clause-holds
 raise-requires-clause-holds g c = λ t. subst (λ (l : List ℕ). IsLoaded c.args.content.now c.in_ok-file.file l) (sym (c.load_space.ensures.still 0)) (c.in_ok-file.ensures.loaded t)
@@ -25,6 +23,3 @@ pub returns-clause-stop : goal.returns-clause-stop
 returns-clause-stop g c = λ t settled found is.
     looking_raising c.args.content.now c.in_ok-file.file found (g.H.Host.view c.args.host.now) (g.H.Host.view c.load_space.new.host) (g.H.Host.view c.raise.new.host) settled is
     (c.in_ok-file.ensures.loaded t) c.load_space.ensures.stop c.load_space.ensures.images c.raise.ensures.stop
-
-pub returns-clause-on : goal.returns-clause-on
-returns-clause-on g c = IfOk-weaker c.raise.result _ _ (λ m on. λ t settled. on t) c.raise.ensures.on

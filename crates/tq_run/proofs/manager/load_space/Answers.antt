@@ -1,4 +1,4 @@
-use Rattle.std.proofs.Common.{◌≡◌, ◌≤◌, ◌+◌, ◌*◌, ◌∙◌, List, ℕ, Option, Some, None, Result, Ok, Err, IfOk, false, length, subst, ap, sym, rules}
+use Rattle.std.proofs.Common.{◌≡◌, ◌≤◌, ◌∙◌, Option, Some, Result, Err, IfOk, false, length, subst, ap, sym, rules}
 use Rattle.tq_device.specs.declared.content.NamedSpace.{NamedSpace}
 use Rattle.tq_spacefile.specs.declared.place.SpacePlace.{SpacePlace}
 use Rattle.tq_spacefile.specs.declared.file.SpaceFile.{SpaceFile}
@@ -9,7 +9,7 @@ use Rattle.tq_spacefile.specs.Place.{space_end}
 use Rattle.tq_run.specs.declared.status.Stop.{Stop}
 use Rattle.tq_run.specs.declared.status.Stop.TheVariants as stops
 use Rattle.tq_run.specs.Counts.{StopCounts}
-use Rattle.tq_run.specs.Manager.{place_of, stop_for, IsFileAt}
+use Rattle.tq_run.specs.Manager.{place_of, IsFileAt}
 use Rattle.tq_run.proofs.FoundLemmas.{damaged_space}
 use Rattle.tq_run.proofs.LoadLemmas.{LoadCounts, load_counts, three_stops, damaged_file}
 use Rattle.tq_device.proofs.Offered.{stands_reach}

@@ -1,28 +1,26 @@
-use Rattle.std.proofs.Common.{◌≡◌, ◌∙◌, List, ℕ, Option, Some, None, Result, Ok, Err, IfOk, subst, ap, sym, inl, rules}
+use Rattle.std.proofs.Common.{◌≡◌, ◌∙◌, List, ℕ, Some, Result, Ok, IfOk, subst, ap, sym, inl, rules}
 use Rattle.tq_host.specs.declared.host.Failed.{Failed}
 use Rattle.tq_host.specs.View.{IsSettled}
 use Rattle.tq_host.proofs.Within.{starts}
-use Rattle.tq_model.specs.Site.{Site}
-use Rattle.tq_model.specs.Step.{booted}
 use Rattle.tq_device.specs.declared.content.DeviceContent.{DeviceContent}
 use Rattle.tq_device.specs.Content.{Stands, IsAnyStep, IsSameButJournal, raised}
 use Rattle.tq_run.specs.Manager.{site_with, IsOn, IsContentOn, loaded_site}
-use Rattle.tq_run.specs.Stops.{IsEither}
+use Rattle.tq_run.specs.Stops.{IsFoundOrBooted}
 use Rattle.tq_run.proofs.CountLemmas.{of_ok}
-use Rattle.tq_run.proofs.Stopping.{any_steps}
+use Rattle.tq_device.proofs.Making.{any_steps}
 use Rattle.tq_run.proofs.Booting.{raising, raised_on, booted_is, loaded_stands}
 use Rattle.tq_run.proofs.manager.raise.Goals as goal
 
 pub returns-then-content-clause-stop : goal.returns-then-content-clause-stop
 returns-then-content-clause-stop g c = λ loaded.
     let s = loaded_site c.args.content.now c.args.file in
-    starts 0 IsAnyStep any_steps (IsEither s (booted s)) (g.H.Host.view c.args.host.now) (λ image may. inl (loaded_stands c.args.content.now c.args.file image (loaded image may)))
+    starts 0 IsAnyStep any_steps (IsFoundOrBooted s) (g.H.Host.view c.args.host.now) (λ image may. inl (loaded_stands c.args.content.now c.args.file image (loaded image may)))
 
 pub returns-in_err-raised-clause-stop : goal.returns-in_err-raised-clause-stop
-returns-in_err-raised-clause-stop g c = λ loaded. raising c.args.content.now c.args.file (g.H.Host.view c.args.host.now) (g.H.Host.view c.raise_epoch.new.host) loaded (c.raise_epoch.ensures.stop (λ i may. (loaded i may).stands))
+returns-in_err-raised-clause-stop g c = λ loaded. raising c.args.content.now c.args.file (g.H.Host.view c.args.host.now) (g.H.Host.view c.raise_epoch.new.host) (search rules) loaded (c.raise_epoch.ensures.stop (λ i may. (loaded i may).stands))
 
 pub returns-clause-stop : goal.returns-clause-stop
-returns-clause-stop g c = λ loaded. raising c.args.content.now c.args.file (g.H.Host.view c.args.host.now) (g.H.Host.view c.raise_epoch.new.host) loaded (c.raise_epoch.ensures.stop (λ i may. (loaded i may).stands))
+returns-clause-stop g c = λ loaded. raising c.args.content.now c.args.file (g.H.Host.view c.args.host.now) (g.H.Host.view c.raise_epoch.new.host) (search rules) loaded (c.raise_epoch.ensures.stop (λ i may. (loaded i may).stands))
 
 pub returns-clause-raised : goal.returns-clause-raised
 returns-clause-raised g c = λ t.

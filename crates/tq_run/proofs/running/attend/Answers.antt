@@ -1,128 +1,83 @@
-use Rattle.std.proofs.Common.{◌≡◌, ◌∙◌, List, ℕ, sym, ap, subst, rules, Result, Err, Some}
-use Rattle.tq_host.specs.Calls.{IsGiving}
+use Rattle.std.proofs.Common.{◌≡◌, ◌≢◌, ◌<◌, ◌≤◌, ℕ, List, [], ◌∷◌, ◌++◌, Option, Some, Result, Ok, Err, refl, sym, ◌∙◌, ap, subst, rules, arith}
+use Rattle.tq_host.specs.View.{TellsAll, last}
 use Rattle.tq_host.specs.Within.{Ran}
-use Rattle.tq_model.specs.Grammar.{script_requests}
-use Rattle.tq_host.specs.View.{Streams, TellsAll, IsSettled}
-use Rattle.tq_model.specs.declared.answer.Answer.{Answer}
+use Rattle.tq_host.proofs.Running.{ran_on}
+use Rattle.tq_model.specs.declared.request.Request.TheVariants.{Boot}
 use Rattle.tq_model.specs.Site.{Site}
-use Rattle.tq_model.specs.Step.{ready}
-use Rattle.tq_model.specs.Text.{line_text}
+use Rattle.tq_model.specs.Grammar.{script_requests}
 use Rattle.tq_model.specs.Reading.{site_found}
 use Rattle.tq_run.specs.declared.status.Stop.{Stop}
-use Rattle.tq_run.specs.Counts.{IsQuiet, HasCounts}
-use Rattle.tq_run.specs.Manager.{site_of}
-use Rattle.tq_run.specs.Output.{GivesText}
-use Rattle.tq_run.specs.Serial.{IsSerial}
-use Rattle.tq_run.specs.Stops.{AreOn, IsStopped}
-use Rattle.tq_run.proofs.Booting.{attaching, booting, answering, running}
-use Rattle.tq_run.proofs.CountLemmas.{on_ok, of_ok}
-use Rattle.tq_run.proofs.Lines.{some_more, none_given}
-use Rattle.tq_run.proofs.Attending.{is_serial, same_found, was_bootable, from_before}
-use Rattle.tq_run.specs.Manager.{is_bootable}
-use Rattle.tq_run.specs.declared.status.Stop.TheVariants.{Damaged}
+use Rattle.tq_run.specs.declared.status.Stop.TheVariants.{Device, Damaged}
+use Rattle.tq_run.specs.Counts.{IsQuiet, HasRunCounts}
+use Rattle.tq_run.specs.Ending.{IsDone, FailsInLine0}
+use Rattle.tq_run.specs.Turns.{IsOfLines, origin_of}
+use Rattle.tq_run.specs.Standing.{HasReached}
+use Rattle.tq_run.proofs.CountLemmas.{on_ok, of_ok, quiet_calm, stop_counts, run_counts_on}
+use Rattle.tq_run.proofs.Going.{ran_front, is_done, tells_on}
+use Rattle.tq_run.proofs.Turning.{ran_more}
+use Rattle.tq_run.proofs.Statuses.{line_0_ended, line_0_begun}
 use Rattle.tq_run.proofs.running.attend.Goals as goal
 
-pub returns-in_err-manager-clause-some : goal.returns-in_err-manager-clause-some
-returns-in_err-manager-clause-some g c = λ t.
-    let same = c.boot.ensures.rest.streams ∙ c.attach.ensures.call.streams in
-    none_given (g.H.Host.view c.args.host.now) (g.H.Host.view c.boot.new.host) (ap (λ (s : Streams). s.output) same) (ap (λ (s : Streams). s.stamps) same)
+same_error : {T : Type 0} (stop : Stop) → ◌≡◌ {A = Result T Stop} (Err stop) (Err Device) → stop ≡ Device
+same_error stop e = cc
+
+pub returns-in_err-state-clause-stop : goal.returns-in_err-state-clause-stop
+returns-in_err-state-clause-stop g c = λ t below settled found is raisable.
+    let a = g.H.Host.view c.args.host.now in
+    ran_front (origin_of a) (g.H.Host.view c.begin.new.host) found (Boot ∷ []) (script_requests a.streams.script) a (c.begin.ensures.stop t below settled found is raisable)
+
+pub returns-clause-stop : goal.returns-clause-stop
+returns-clause-stop g c = λ t below settled found is raisable.
+    let a = g.H.Host.view c.args.host.now in
+    let b = g.H.Host.view c.begin.new.host in
+    let d = g.H.Host.view c.answer_script.new.host in
+    let o = origin_of a in
+    let script : b.streams.script ≡ a.streams.script = c.begin.ensures.input.script in
+    let more = c.answer_script.ensures.told t.output in
+    let low : b.faults < last = omega (arith, below, c.answer_script.ensures.later) in
+    let reached : HasReached o found (Boot ∷ []) c.in_ok-state.state b = c.in_ok-state.ensures.reached t found is in
+    ran_on (IsOfLines o d found (Boot ∷ script_requests a.streams.script)) a b d
+    (ran_more reached.answered d more.0 more.1 (script_requests a.streams.script) a (c.begin.ensures.stop t low settled found is raisable))
+    (subst (λ (l : List ℕ). Ran (IsOfLines o d found (Boot ∷ script_requests l)) b d) script (c.answer_script.ensures.stop t below o found Boot reached))
 
 pub returns-clause-done : goal.returns-clause-done
 returns-clause-done g c =
     let a = g.H.Host.view c.args.host.now in
-    let b = g.H.Host.view c.attach.new.self in
-    let d = g.H.Host.view c.boot.new.host in
-    let e = g.H.Host.view c.give_answer.new.host in
-    let f = g.H.Host.view c.answer_script.new.host in
-    let m = c.in_ok-manager.manager in
-    let m' = c.answer_script.new.manager in
-    let r = c.answer_script.result in
-    let attached : b.faults ≡ a.faults = search rules in
-    let quiet : IsQuiet b d = c.in_ok-manager.ensures.counts in
-    let answered : IsQuiet d e = c.in_ok-give_answer.ensures.counts in
-    on_ok r (TellsAll g.H.Host.tells → (found : Site) → site_found 1 a.reads ≡ Some found → IsSerial a f found) (λ x ok. λ t found is.
-    let served : IsQuiet e f = subst (λ (q : Result (Unit {0}) Stop). HasCounts q e f) ok c.answer_script.ensures.counts in
-    let said : GivesText (line_text 0 (ready (site_of m))) d e = subst (λ (ans : Answer). GivesText (line_text 0 ans) d e) c.readiness.ensures (c.in_ok-give_answer.ensures.gave t.output) in
-    is_serial m m' a b d e f c.attach.ensures.call.streams attached (c.attach.ensures.still.reads 0) (c.in_ok-manager.ensures.booted t.reads) c.boot.ensures.rest.streams quiet.device
-    said answered.device c.give_answer.ensures.input
-    (of_ok r x _ ok c.answer_script.ensures.site t.script) (of_ok r x _ ok c.answer_script.ensures.left t.script) (of_ok r x _ ok c.answer_script.ensures.holds t.reads)
-    (of_ok r x _ ok c.answer_script.ensures.gave t.script t.output) served.device found is)
+    let b = g.H.Host.view c.begin.new.host in
+    let d = g.H.Host.view c.answer_script.new.host in
+    on_ok c.answer_script.result (TellsAll g.H.Host.tells → d.faults < last → (found : Site) → site_found 1 a.reads ≡ Some found → IsDone a d found) (λ x ok. λ t below found is.
+    let script : b.streams.script ≡ a.streams.script = c.begin.ensures.input.script in
+    let reached : HasReached (origin_of a) found (Boot ∷ []) c.in_ok-state.state b = c.in_ok-state.ensures.reached t found is in
+    let all = subst (λ (l : List ℕ). HasReached (origin_of a) found (Boot ∷ script_requests l) c.answer_script.new.state d) script (of_ok c.answer_script.result x _ ok c.answer_script.ensures.reached t below (origin_of a) found Boot reached) in
+    is_done a d found c.answer_script.new.state (g.met.H.Host.lawful c.answer_script.new.host) t (of_ok c.answer_script.result x _ ok c.answer_script.ensures.left t.script) all)
 
-pub returns-clause-bootable : goal.returns-clause-bootable
-returns-clause-bootable g c = λ damaged device memory t.
-    was_bootable c.in_ok-manager.manager (g.H.Host.view c.args.host.now) (g.H.Host.view c.attach.new.self) (g.H.Host.view c.boot.new.host) (c.attach.ensures.still.reads 0) (c.in_ok-manager.ensures.booted t)
-
-pub returns-clause-some : goal.returns-clause-some
-returns-clause-some g c = λ t.
+pub returns-in_err-state-clause-line_0 : goal.returns-in_err-state-clause-line_0
+returns-in_err-state-clause-line_0 g c = λ t added is rose.
     let a = g.H.Host.view c.args.host.now in
-    let b = g.H.Host.view c.attach.new.self in
-    let d = g.H.Host.view c.boot.new.host in
-    let e = g.H.Host.view c.give_answer.new.host in
-    let f = g.H.Host.view c.answer_script.new.host in
-    let attached : b.faults ≡ a.faults = search rules in
-    let quiet : IsQuiet b d = c.in_ok-manager.ensures.counts in
-    let answered : IsQuiet d e = c.in_ok-give_answer.ensures.counts in
-    let first = c.give_answer.ensures.some t in
-    let begun = from_before first.0 a d e (c.boot.ensures.rest.streams ∙ c.attach.ensures.call.streams) (quiet.device ∙ attached) first.1 in
-    some_more a e f (answered.device ∙ quiet.device ∙ attached) (first.0, begun) (c.answer_script.ensures.some t)
+    let b = g.H.Host.view c.begin.new.host in
+    let stop = c.in_err-state.field-0.0 in
+    let same : c.from_residual.result ≡ Err stop = search rules in
+    let ended = line_0_ended stop a b (λ e. c.begin.ensures.silent (c.in_err-state.was ∙ ap Err e)) (λ other. c.in_err-state.ensures.calm (λ e. other (same_error stop e)) t) added is rose in
+    (same ∙ ap Err ended.0, ended.1)
 
-pub returns-in_err-map_err-clause-stop : goal.returns-in_err-map_err-clause-stop
-returns-in_err-map_err-clause-stop g c = λ t settled found is raisable.
-    let a = g.H.Host.view c.args.host.now in
-    attaching found (script_requests a.streams.script) a (g.H.Host.view c.attach.new.self) settled is c.attach.ensures.call c.attach.ensures.still
+pub returns-clause-line_0 : goal.returns-clause-line_0
+returns-clause-line_0 g c = λ t.
+    line_0_begun _ (g.H.Host.view c.args.host.now) (g.H.Host.view c.begin.new.host) (g.H.Host.view c.answer_script.new.host) (c.in_ok-state.ensures.begun t) (c.answer_script.ensures.told t)
 
-pub returns-in_err-manager-clause-stop : goal.returns-in_err-manager-clause-stop
-returns-in_err-manager-clause-stop g c = λ t settled found is raisable.
-    let a = g.H.Host.view c.args.host.now in
-    booting found (script_requests a.streams.script) a (g.H.Host.view c.attach.new.self) settled is c.attach.ensures.call c.attach.ensures.still raisable (g.H.Host.view c.boot.new.host) c.boot.ensures.rest.streams (c.boot.ensures.stop t.reads)
+pub returns-in_err-state-clause-told : goal.returns-in_err-state-clause-told
+returns-in_err-state-clause-told g c = c.begin.ensures.told
 
-pub returns-in_err-give_answer-clause-stop : goal.returns-in_err-give_answer-clause-stop
-returns-in_err-give_answer-clause-stop g c = λ t settled found is raisable.
-    let a = g.H.Host.view c.args.host.now in
-    let b = g.H.Host.view c.attach.new.self in
-    let d = g.H.Host.view c.boot.new.host in
-    let e = g.H.Host.view c.give_answer.new.host in
-    let m = c.in_ok-manager.manager in
-    let then : IsSettled 0 b = λ i may. settled i (c.attach.ensures.still.may_leave 0 i may) ∙ sym (c.attach.ensures.still.reads 0) in
-    answering found (script_requests a.streams.script) a b settled is c.attach.ensures.call c.attach.ensures.still raisable d c.boot.ensures.rest.streams (c.boot.ensures.stop t.reads) m e
-    (c.in_ok-manager.ensures.booted t.reads) (c.in_ok-manager.ensures.on t.reads then) c.give_answer.ensures.images (c.give_answer.ensures.some t.output)
-    (subst (λ (ans : Answer). Ran (IsGiving (line_text 0 ans) d e) d e) c.readiness.ensures c.give_answer.ensures.gives)
+pub returns-clause-told : goal.returns-clause-told
+returns-clause-told g c = λ t. tells_on (g.H.Host.view c.args.host.now) (g.H.Host.view c.begin.new.host) (g.H.Host.view c.answer_script.new.host) (c.begin.ensures.told t) (c.answer_script.ensures.told t)
 
-pub returns-clause-stop : goal.returns-clause-stop
-returns-clause-stop g c = λ t settled found is raisable.
-    let a = g.H.Host.view c.args.host.now in
-    let b = g.H.Host.view c.attach.new.self in
-    let d = g.H.Host.view c.boot.new.host in
-    let e = g.H.Host.view c.give_answer.new.host in
-    let f = g.H.Host.view c.answer_script.new.host in
-    let m = c.in_ok-manager.manager in
-    let script : e.streams.script ≡ a.streams.script = c.give_answer.ensures.input.script ∙ ap (λ (s : Streams). s.script) (c.boot.ensures.rest.streams ∙ c.attach.ensures.call.streams) in
-    let then : IsSettled 0 b = λ i may. settled i (c.attach.ensures.still.may_leave 0 i may) ∙ sym (c.attach.ensures.still.reads 0) in
-    let on : AreOn m d = c.in_ok-manager.ensures.on t.reads then in
-    running found (script_requests a.streams.script) a b settled is c.attach.ensures.call c.attach.ensures.still raisable d c.boot.ensures.rest.streams (c.boot.ensures.stop t.reads) m e
-    (c.in_ok-manager.ensures.booted t.reads) on c.give_answer.ensures.images (c.give_answer.ensures.some t.output)
-    (subst (λ (ans : Answer). Ran (IsGiving (line_text 0 ans) d e) d e) c.readiness.ensures c.give_answer.ensures.gives) f
-    (subst (λ (ans : Answer). GivesText (line_text 0 ans) d e) c.readiness.ensures (c.in_ok-give_answer.ensures.gave t.output)) (c.answer_script.ensures.some t.output)
-    (subst (λ (l : List ℕ). Ran (IsStopped (site_of m) 1 (script_requests l) e f) e f) script (c.answer_script.ensures.stop t.reads t.script t.output (λ i may. on i (c.give_answer.ensures.images 0 i may))))
+pub returns-in_err-state-clause-counts : goal.returns-in_err-state-clause-counts
+returns-in_err-state-clause-counts g c =
+    let stop = c.in_err-state.field-0.0 in
+    let same : c.from_residual.result ≡ Err stop = search rules in
+    subst (λ (r : Result (Unit {0}) Stop). HasRunCounts r (g.H.Host.view c.args.host.now) (g.H.Host.view c.begin.new.host)) (sym same) (stop_counts stop (g.H.Host.view c.args.host.now) (g.H.Host.view c.begin.new.host) c.in_err-state.ensures.counts)
 
-pub returns-in_err-manager-clause-damaged : goal.returns-in_err-manager-clause-damaged
-returns-in_err-manager-clause-damaged g c = λ e t.
-    let a = (g.H.Host.view c.args.host.now).reads in
-    let b = (g.H.Host.view c.attach.new.self).reads in
-    let failed : c.boot.result ≡ Err Damaged = search rules in
-    ap is_bootable (sym (same_found b a (c.attach.ensures.still.reads 0))) ∙ c.boot.ensures.damaged failed t
-
-pub returns-in_err-give_answer-clause-bootable : goal.returns-in_err-give_answer-clause-bootable
-returns-in_err-give_answer-clause-bootable g c = λ damaged device memory t.
-    was_bootable c.in_ok-manager.manager (g.H.Host.view c.args.host.now) (g.H.Host.view c.attach.new.self) (g.H.Host.view c.boot.new.host) (c.attach.ensures.still.reads 0) (c.in_ok-manager.ensures.booted t)
-
-pub returns-in_err-give_answer-clause-some : goal.returns-in_err-give_answer-clause-some
-returns-in_err-give_answer-clause-some g c = λ t.
-    let a = g.H.Host.view c.args.host.now in
-    let b = g.H.Host.view c.attach.new.self in
-    let d = g.H.Host.view c.boot.new.host in
-    let e = g.H.Host.view c.give_answer.new.host in
-    let attached : b.faults ≡ a.faults = search rules in
-    let quiet : IsQuiet b d = c.in_ok-manager.ensures.counts in
-    let some = c.give_answer.ensures.some t in
-    (some.0, from_before some.0 a d e (c.boot.ensures.rest.streams ∙ c.attach.ensures.call.streams) (quiet.device ∙ attached) some.1)
+pub returns-clause-counts : goal.returns-clause-counts
+returns-clause-counts g c =
+    let quiet : IsQuiet (g.H.Host.view c.args.host.now) (g.H.Host.view c.begin.new.host) = c.in_ok-state.ensures.counts in
+    run_counts_on c.answer_script.result (g.H.Host.view c.args.host.now) (g.H.Host.view c.begin.new.host) (g.H.Host.view c.answer_script.new.host)
+    (quiet_calm (g.H.Host.view c.args.host.now) (g.H.Host.view c.begin.new.host) quiet) c.answer_script.ensures.lines.1 c.answer_script.ensures.lines.0 c.answer_script.ensures.counts

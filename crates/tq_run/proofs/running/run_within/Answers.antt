@@ -1,27 +1,31 @@
-use Rattle.std.proofs.Common.{◌≡◌, ◌⊎◌, ◌<◌, ◌∙◌, subst, sym, refl, arith, Some, OnOk, ◌∷◌}
-use Rattle.tq_host.specs.View.{TellsAll}
+use Rattle.std.proofs.Common.{◌≡◌, ◌≢◌, ◌⊎◌, ◌<◌, ◌∙◌, subst, sym, refl, arith, Some, Err, Result, OnOk, [], ◌∷◌, ap}
+use Rattle.std.proofs.lemmas.List.{append-nil}
+use Rattle.tq_host.specs.View.{TellsAll, last}
 use Rattle.tq_host.specs.Calls.{HasCauseOf}
+use Rattle.tq_host.proofs.Running.{each}
+use Rattle.tq_model.specs.declared.request.Request.TheVariants.{Boot}
 use Rattle.tq_model.specs.Site.{Site}
+use Rattle.tq_model.specs.Grammar.{script_requests}
 use Rattle.tq_model.specs.Reading.{site_found}
 use Rattle.tq_run.specs.declared.status.Status.{Status}
 use Rattle.tq_run.specs.declared.status.Status.TheVariants as status
-use Rattle.tq_run.specs.Ending.{IsComplete}
-use Rattle.tq_host.proofs.Running.{each}
-use Rattle.tq_model.specs.declared.request.Request.TheVariants.{Boot}
-use Rattle.tq_model.specs.Grammar.{script_requests}
-use Rattle.tq_run.specs.Stops.{IsStopped}
-use Rattle.tq_run.proofs.AtStops.{of_run}
-use Rattle.tq_run.proofs.Booting.{at_first, read_stands}
-use Rattle.tq_run.proofs.Stopping.{some_longer}
-use Rattle.tq_run.proofs.Lines.{none_given}
-use Rattle.tq_run.proofs.CountLemmas.{device_cause, read_cause, write_cause}
-use Rattle.tq_run.proofs.Statuses.{line_0, damaged_always, complete, done}
+use Rattle.tq_run.specs.declared.status.Stop.{Stop}
+use Rattle.tq_run.specs.declared.status.Stop.TheVariants.{Device}
+use Rattle.tq_run.specs.Counts.{RoseDevice, HasRunCounts}
+use Rattle.tq_run.specs.Ending.{IsComplete, IsDone, FailsInLine0, status_for}
+use Rattle.tq_run.specs.Turns.{IsOfLines, origin_of}
+use Rattle.tq_run.proofs.Beginning.{calm_none}
+use Rattle.tq_run.proofs.Booting.{read_stands}
+use Rattle.tq_run.proofs.CountLemmas.{read_cause, write_cause}
+use Rattle.tq_run.proofs.Going.{of_run}
+use Rattle.tq_run.proofs.Statuses.{not_risen, damaged_always, complete, done, is_device}
+use Rattle.tq_run.proofs.Turning.{starts_answered, of_answered_more}
 use Rattle.tq_run.proofs.running.run_within.Goals as goal
 
 pub returns-in-None-clause-line_0 : goal.returns-in-None-clause-line_0
-returns-in-None-clause-line_0 g c = λ t.
+returns-in-None-clause-line_0 g c = λ t added is rose.
     let v = g.H.Host.view c.args.host.now in
-    line_0 (status.Usage ≡ status.DeviceFault) v v (none_given v v refl refl) (λ lt. absurd (omega (arith, lt)))
+    not_risen v v added rose (calm_none v v refl refl added is)
 
 pub returns-in-Some-clause-damaged_always : goal.returns-in-Some-clause-damaged_always
 returns-in-Some-clause-damaged_always g c = λ usage t none calm.
@@ -40,36 +44,36 @@ returns-in-Some-clause-write_fault g c =
     subst (λ (s : Status). HasCauseOf (s ≡ status.WriteFault) old.streams.output_faults new.streams.output_faults) (sym c.status_of.ensures) (write_cause c.attend.result old new c.attend.ensures.counts)
 
 pub returns-in-Some-clause-device_fault : goal.returns-in-Some-clause-device_fault
-returns-in-Some-clause-device_fault g c =
+returns-in-Some-clause-device_fault g c = λ is.
     let old = g.H.Host.view c.args.host.now in
     let new = g.H.Host.view c.attend.new.host in
-    subst (λ (s : Status). HasCauseOf (s ≡ status.DeviceFault) old.faults new.faults) (sym c.status_of.ensures) (device_cause c.attend.result old new c.attend.ensures.counts)
+    let failed : c.attend.result ≡ Err Device = is_device c.attend.result (sym c.status_of.ensures ∙ is) in
+    let rose : RoseDevice old new = subst (λ (r : Result (Unit {0}) Stop). HasRunCounts r old new) failed c.attend.ensures.counts in
+    (rose.device.rose, c.attend.ensures.silent failed)
 
 pub returns-in-Some-clause-line_0 : goal.returns-in-Some-clause-line_0
-returns-in-Some-clause-line_0 g c = λ t.
-    let old = g.H.Host.view c.args.host.now in
-    let new = g.H.Host.view c.attend.new.host in
-    line_0 (c.status_of.result ≡ status.DeviceFault) old new (c.attend.ensures.some t) (λ lt. c.status_of.ensures ∙ (device_cause c.attend.result old new c.attend.ensures.counts).only lt)
+returns-in-Some-clause-line_0 g c = λ t added is rose.
+    let ended = c.attend.ensures.line_0 t added is rose in
+    (c.status_of.ensures ∙ ap status_for ended.0, ended.1)
 
 pub returns-in-Some-clause-done : goal.returns-in-Some-clause-done
-returns-in-Some-clause-done g c = λ is t.
-    done c.attend.result (g.H.Host.view c.args.host.now) (g.H.Host.view c.attend.new.host) (TellsAll g.H.Host.tells) c.attend.ensures.done (sym c.status_of.ensures ∙ is) t
+returns-in-Some-clause-done g c = λ is. done c.attend.result _ c.attend.ensures.done (sym c.status_of.ensures ∙ is)
 
 pub returns-in-Some-clause-complete : goal.returns-in-Some-clause-complete
 returns-in-Some-clause-complete g c = λ usage t can calm.
     subst IsComplete (sym c.status_of.ensures) (complete c.attend.result (g.H.Host.view c.args.host.now) (g.H.Host.view c.attend.new.host) g.H.Host.tells.reads c.attend.ensures.damaged c.attend.ensures.counts t can calm)
 
 pub returns-in-None-clause-stop : goal.returns-in-None-clause-stop
-returns-in-None-clause-stop g c = λ t settled found is raisable p left.
+returns-in-None-clause-stop g c = λ t below settled found is raisable p left.
     let v = g.H.Host.view c.args.host.now in
     let now = (g.met.H.Host.lawful c.args.host.now).only_now p left in
-    of_run v v found (none_given v v refl refl) raisable p (at_first found _ v v p (read_stands v.reads found (p.images 0) is (settled (p.images 0) (now.images 0))) now.output (omega arith))
+    of_run v v found p (of_answered_more (starts_answered v found) v [] (sym (append-nil v.streams.stamps)) (Boot ∷ script_requests v.streams.script) p (read_stands v.reads found (p.images 0) is (settled (p.images 0) (now.images 0))) now.output)
 
 pub returns-in-Some-clause-stop : goal.returns-in-Some-clause-stop
-returns-in-Some-clause-stop g c = λ t settled found is raisable p left.
+returns-in-Some-clause-stop g c = λ t below settled found is raisable p left.
     let a = g.H.Host.view c.args.host.now in
     let f = g.H.Host.view c.attend.new.host in
     let requests = Boot ∷ script_requests a.streams.script in
-    let some = c.attend.ensures.some t.output in
-    of_run a f found some raisable p (each (IsStopped found 0 requests a f) a f (g.met.H.Host.lawful c.args.host.now) (c.attend.ensures.stop t settled found is raisable)
-    (λ q now. at_first found requests a f q (read_stands a.reads found (q.images 0) is (settled (q.images 0) (now.images 0))) now.output (some_longer a f some)) p left)
+    let more = c.attend.ensures.told t.output in
+    of_run a f found p (each (IsOfLines (origin_of a) f found requests) a f (g.met.H.Host.lawful c.args.host.now) (c.attend.ensures.stop t below settled found is raisable)
+    (λ q now. of_answered_more (starts_answered a found) f more.0 more.1 requests q (read_stands a.reads found (q.images 0) is (settled (q.images 0) (now.images 0))) now.output) p left)

@@ -1,17 +1,27 @@
-use Rattle.std.proofs.Common.{◌≡◌, ◌<◌, ◌+◌, ℕ, List, ◌∷◌, ◌++◌, length, refl, sym, ◌∙◌, ap, subst, rules, arith}
-use Rattle.tq_model.specs.Site.{Site}
-use Rattle.tq_model.specs.Step.{step}
-use Rattle.tq_model.specs.Text.{line_text}
+use Rattle.std.proofs.Common.{◌≡◌, ◌<◌, ◌+◌, ℕ, List, [], ◌∷◌, ◌++◌, length, refl, sym, ◌∙◌, ap, subst, rules, arith}
+use Rattle.std.specs.Prelude.{map}
+use Rattle.tq_host.specs.View.{last}
+use Rattle.tq_model.specs.declared.request.Request.{Request}
 use Rattle.tq_model.specs.Grammar.{script_lines, script_requests, line_request}
-use Rattle.tq_run.specs.Manager.{site_of}
-use Rattle.tq_run.specs.Serial.{site_after, lines_text}
-use Rattle.tq_run.specs.Counts.{IsQuiet}
-use Rattle.tq_run.proofs.CountLemmas.{quiet, quiet_on}
-use Rattle.tq_run.proofs.Lines.{GaveSoFar, gave_first, gave_more, some_more, none_given, site_first, text_first, requests_first}
-use Rattle.tq_run.specs.Stops.{IsStopped}
-use Rattle.tq_run.proofs.Stopping.{reached_first, reached_next, ran_next}
-use Rattle.tq_host.proofs.Running.{ran_start}
+use Rattle.tq_run.specs.Counts.{IsCalm}
+use Rattle.tq_run.specs.Turns.{IsOfLines}
+use Rattle.tq_run.proofs.CountLemmas.{calm, calm_on, run_counts_on}
+use Rattle.tq_run.proofs.Going.{IsSoFar, so_far_first, so_far_next, ends_here, all_ran, all_reached, tells_on, tells_none, requests_first}
 use Rattle.tq_run.proofs.serving.serve_lines.Goals as goal
+
+pub loop-line-init : goal.loop-line-init
+loop-line-init g c =
+    let start = g.H.Host.view c.args.host.now in
+    record {
+      count = omega arith;
+      sound = c.requires.sound;
+      numbers = c.requires.numbers;
+      holds = c.requires.holds;
+      input = search rules;
+      calm = calm start;
+      told = λ t. tells_none start start refl;
+      so_far = λ t below o found first reached. so_far_first o found first (script_requests c.args.script.now) c.args.state.now start reached;
+    }
 
 pub loop-line-preserved : goal.loop-line-preserved
 loop-line-preserved g c =
@@ -22,58 +32,27 @@ loop-line-preserved g c =
     let rest = c.loop-line.rest.now in
     let line = c.in-Some.line.now in
     let behind = c.in-Some.behind.now in
-    let n = c.loop-line.number in
-    let s = site_of c.loop-line.manager in
-    let m = site_of c.serve_line.new.manager in
-    let cut : script_lines rest ≡ line ∷ script_lines behind = c.in-Some.ensures.lines in
     let shorter : length behind < length rest = c.in-Some.ensures.shorter in
-    let stepped : m ≡ (step s (line_request line)).site = c.in_ok-serve_line.ensures.site in
-    let calm : IsQuiet mid new = c.in_ok-serve_line.ensures.counts in
-    let whole = lines_text 1 (site_of c.args.manager.now) (script_requests c.args.script.now) in
-    let next = lines_text (n + 1) (step s (line_request line)).site (script_requests behind) in
+    let quiet : IsCalm mid new = c.in_ok-serve_line.ensures.counts in
     record {
       count = omega (arith, inv.count, shorter);
-      fit = c.in_ok-serve_line.ensures.fit;
+      sound = c.in_ok-serve_line.ensures.sound;
       numbers = omega (arith, inv.numbers, shorter, c.in_ok-serve_line.ensures.next);
       holds = c.in_ok-serve_line.ensures.holds;
-      site = ap (λ (x : Site). site_after x (script_requests behind)) stepped ∙ sym (site_first s rest line behind cut) ∙ inv.site;
-      gave = λ t.
-          let so_far : GaveSoFar whole (line_text n (step s (line_request line)).answer ++ next) start mid = subst (λ (left : List ℕ). GaveSoFar whole left start mid) (text_first n s rest line behind cut) (inv.gave t) in
-          let more : GaveSoFar whole next start new = gave_more whole (line_text n (step s (line_request line)).answer) next start mid new so_far inv.quiet.device (c.in_ok-serve_line.ensures.gave t) in
-          subst (λ (x : Site). GaveSoFar whole (lines_text (n + 1) x (script_requests behind)) start new) (sym stepped) more;
       input = search rules;
-      quiet = quiet_on start mid new inv.quiet calm;
-      some = λ t. some_more start mid new inv.quiet.device (inv.some t) (c.serve_line.ensures.some t);
-      reached = reached_next g.H.Host.tells.output (site_of c.args.manager.now) (script_requests c.args.script.now) (script_requests rest) (script_requests behind) n (line_request line) c.loop-line.manager start mid new inv.reached
-          (requests_first rest line behind cut) c.serve_line.new.manager stepped c.in_ok-serve_line.ensures.gave;
-      safe = λ t o on. record {
-        ran = ran_next g.H.Host.tells.output (site_of c.args.manager.now) (script_requests c.args.script.now) (script_requests rest) (script_requests behind) n (line_request line) c.loop-line.manager start mid new inv.reached
-            (requests_first rest line behind cut) o (c.serve_line.ensures.some o) (inv.safe t o on).ran (c.serve_line.ensures.stop t o (inv.safe t o on).on (script_requests behind));
-        on = c.in_ok-serve_line.ensures.images t (inv.safe t o on).on;
-      };
-    }
-
-pub loop-line-init : goal.loop-line-init
-loop-line-init g c =
-    let start = g.H.Host.view c.args.host.now in
-    let all = script_requests c.args.script.now in
-    let m = c.args.manager.now in
-    record {
-      count = omega arith;
-      fit = c.requires.fit;
-      numbers = c.requires.numbers;
-      holds = c.requires.holds;
-      site = refl;
-      gave = λ t. gave_first (lines_text 1 (site_of m) all) start;
-      input = search rules;
-      quiet = quiet start;
-      some = λ t. none_given start start refl refl;
-      reached = reached_first g.H.Host.tells.output all m start;
-      safe = λ t o on. record { ran = ran_start (IsStopped (site_of m) 1 all start start) start; on = on };
+      calm = calm_on start mid new inv.calm quiet;
+      told = λ t. tells_on start mid new (inv.told t) (c.serve_line.ensures.told t);
+      so_far = λ t below o found first reached.
+          let low : mid.faults < last = omega (arith, below, quiet.device) in
+          let so_far = inv.so_far t low o found first reached in
+          so_far_next o found first (script_requests c.args.script.now) (script_requests rest) (script_requests behind) (line_request line) c.loop-line.number c.loop-line.state start mid new so_far
+          (requests_first rest line behind c.in-Some.ensures.lines) (c.serve_line.ensures.told t.output) c.serve_line.new.state
+          (c.in_ok-serve_line.ensures.reached t below o found (first ∷ so_far.done) so_far.count so_far.reached)
+          (c.serve_line.ensures.stop t below o found (first ∷ so_far.done) so_far.count so_far.reached);
     }
 
 pub returns-in_err-serve_line-clause-stop : goal.returns-in_err-serve_line-clause-stop
-returns-in_err-serve_line-clause-stop g c = λ t o on.
+returns-in_err-serve_line-clause-stop g c = λ t below o found first reached.
     let inv = c.loop-line.invariant in
     let start = g.H.Host.view c.args.host.now in
     let mid = g.H.Host.view c.loop-line.host in
@@ -81,12 +60,29 @@ returns-in_err-serve_line-clause-stop g c = λ t o on.
     let rest = c.loop-line.rest.now in
     let line = c.in-Some.line.now in
     let behind = c.in-Some.behind.now in
-    ran_next g.H.Host.tells.output (site_of c.args.manager.now) (script_requests c.args.script.now) (script_requests rest) (script_requests behind) c.loop-line.number (line_request line) c.loop-line.manager start mid new inv.reached
-    (requests_first rest line behind c.in-Some.ensures.lines) o (c.serve_line.ensures.some o) (inv.safe t o on).ran (c.serve_line.ensures.stop t o (inv.safe t o on).on (script_requests behind))
+    let low : mid.faults < last = omega (arith, below, c.serve_line.ensures.later) in
+    let so_far = inv.so_far t low o found first reached in
+    ends_here o found first (script_requests c.args.script.now) (script_requests rest) (script_requests behind) (line_request line) c.loop-line.number c.loop-line.state start mid new so_far
+    (requests_first rest line behind c.in-Some.ensures.lines) (c.serve_line.ensures.told t.output)
+    (c.serve_line.ensures.stop t below o found (first ∷ so_far.done) so_far.count so_far.reached)
+
+pub returns-in_err-serve_line-clause-told : goal.returns-in_err-serve_line-clause-told
+returns-in_err-serve_line-clause-told g c = λ t. tells_on (g.H.Host.view c.args.host.now) (g.H.Host.view c.loop-line.host) (g.H.Host.view c.serve_line.new.host) (c.loop-line.invariant.told t) (c.serve_line.ensures.told t)
 
 pub returns-clause-stop : goal.returns-clause-stop
-returns-clause-stop g c = λ t o on. (c.loop-line.invariant.safe t o on).ran
+returns-clause-stop g c = λ t below o found first reached.
+    let start = g.H.Host.view c.args.host.now in
+    let now = g.H.Host.view c.loop-line.host in
+    let none : script_lines c.loop-line.rest.now ≡ [] = search rules in
+    let all = script_requests c.args.script.now in
+    let so_far = subst (λ (l : List (List ℕ)). IsSoFar o found first all (map line_request l) c.loop-line.number c.loop-line.state start now) none (c.loop-line.invariant.so_far t below o found first reached) in
+    all_ran o found first all c.loop-line.number c.loop-line.state start now so_far
 
-pub returns-in_err-serve_line-clause-some : goal.returns-in_err-serve_line-clause-some
-returns-in_err-serve_line-clause-some g c = λ t.
-    some_more (g.H.Host.view c.args.host.now) (g.H.Host.view c.loop-line.host) (g.H.Host.view c.serve_line.new.host) c.loop-line.invariant.quiet.device (c.loop-line.invariant.some t) (c.serve_line.ensures.some t)
+pub returns-clause-reached : goal.returns-clause-reached
+returns-clause-reached g c = λ t below o found first reached.
+    let start = g.H.Host.view c.args.host.now in
+    let now = g.H.Host.view c.loop-line.host in
+    let none : script_lines c.loop-line.rest.now ≡ [] = search rules in
+    let all = script_requests c.args.script.now in
+    let so_far = subst (λ (l : List (List ℕ)). IsSoFar o found first all (map line_request l) c.loop-line.number c.loop-line.state start now) none (c.loop-line.invariant.so_far t below o found first reached) in
+    all_reached o found first all c.loop-line.number c.loop-line.state start now so_far

@@ -1,12 +1,13 @@
-use Rattle.std.proofs.Common.{◌≡◌, ◌≤◌, ℕ, ◌+◌, List, ◌++◌, length}
+use Rattle.std.proofs.Common.{◌≡◌, ◌≤◌, ◌<◌, ℕ, ◌+◌, List, ◌∷◌, [], length}
+use Rattle.tq_host.specs.View.{TellsAll, last}
+use Rattle.tq_model.specs.declared.request.Request.{Request}
+use Rattle.tq_model.specs.Site.{Site}
 use Rattle.tq_model.specs.Grammar.{script_requests}
-use Rattle.tq_run.specs.Counts.{IsQuiet}
-use Rattle.tq_run.specs.Manager.{site_of, IsOn, IsFit}
-use Rattle.tq_run.specs.Serial.{site_after, lines_text}
-use Rattle.tq_run.specs.Output.{GivesSome, KeepsInput}
-use Rattle.tq_run.specs.Stops.{AreOn}
-use Rattle.tq_run.proofs.Lines.{GaveSoFar}
-use Rattle.tq_run.proofs.Stopping.{ReachedTo, AreSafe}
+use Rattle.tq_run.specs.Counts.{IsCalm}
+use Rattle.tq_run.specs.Output.{TellsMore, KeepsInput}
+use Rattle.tq_run.specs.Turns.{Origin}
+use Rattle.tq_run.specs.Standing.{IsSound, next_of, IsHeld, HasReached}
+use Rattle.tq_run.proofs.Going.{IsSoFar}
 use Rattle.tq_run.proofs.serving.serve_lines.Given as goal
 
 abbrev pub invariant-loop-line : goal.invariant-loop-line
@@ -15,16 +16,14 @@ invariant-loop-line g l =
     let now = g.H.Host.view l.host in
     record {
       count : l.number + length l.rest ≤ length l.script + 1;
-      fit : IsFit l.manager;
-      numbers : l.manager.next + length l.rest ≤ 4294967295;
-      holds : g.H.Host.tells.reads → IsOn l.manager (now.reads 0);
-      site : site_after (site_of l.manager) (script_requests l.rest) ≡ site_after (site_of l.fn.manager) (script_requests l.script);
-      gave : g.H.Host.tells.output → GaveSoFar (lines_text 1 (site_of l.fn.manager) (script_requests l.script)) (lines_text l.number (site_of l.manager) (script_requests l.rest)) start now;
+      sound : IsSound l.state;
+      numbers : next_of l.state + length l.rest ≤ 4294967295;
+      holds : g.H.Host.tells.reads → IsHeld l.state (now.reads 0);
       input : KeepsInput start now;
-      quiet : IsQuiet start now;
-      some : g.H.Host.tells.output → GivesSome start now;
-      reached : ReachedTo g.H.Host.tells.output (site_of l.fn.manager) (script_requests l.script) (script_requests l.rest) l.number l.manager start now;
-      safe : g.H.Host.tells.reads → g.H.Host.tells.output → AreOn l.fn.manager start → AreSafe (site_of l.fn.manager) (script_requests l.script) l.manager start now;
+      calm : IsCalm start now;
+      told : g.H.Host.tells.output → TellsMore start now;
+      so_far : TellsAll g.H.Host.tells → now.faults < last → (o : Origin) (found : Site) (first : Request) → HasReached o found (first ∷ []) l.fn.state start
+          → IsSoFar o found first (script_requests l.script) (script_requests l.rest) l.number l.state start now;
     }
 
 abbrev pub decreases-loop-line : goal.decreases-loop-line

@@ -1,0 +1,180 @@
+-- Line 0: a device is attached, and then there is a boot of what it stands for.
+use Rattle.std.proofs.Common.{◌≡◌, ◌⊎◌, inl, inr, ⊎_elim, ◌<◌, ◌≤◌, ℕ, zero, suc, ◌+◌, List, [], ◌∷◌, ◌++◌, Option, Some, None, Bool, true, false, cond, Result, refl, sym, ◌∙◌, ap, subst, arith, length, append_assoc}
+use Rattle.std.specs.Prelude.{nat_lt, replicate, All, Any}
+use Rattle.std.proofs.lemmas.List.{append-nil, append_cancel_left}
+use Rattle.std.specs.List.{slice_index_or}
+use Rattle.tq_host.specs.View.{View, Picture, Stamp, Streams, IsSettled}
+use Rattle.tq_host.specs.Calls.{IsDeviceCall, IsStill, IsGiven, IsGiving}
+use Rattle.tq_host.specs.declared.host.Failed.{Failed}
+use Rattle.tq_host.specs.Within.{Came, Within, Ran}
+use Rattle.tq_host.proofs.Within.{weaker, in_a_row}
+use Rattle.tq_model.specs.declared.request.Request.TheVariants.{Boot}
+use Rattle.tq_model.specs.Site.{Site, durable}
+use Rattle.tq_model.specs.Step.{Outcome, step, boot, booted, can_boot, ready}
+use Rattle.tq_model.specs.Text.{line_text}
+use Rattle.tq_model.specs.declared.answer.Answer.{Answer}
+use Rattle.tq_model.specs.declared.answer.Answer.TheVariants as answers
+use Rattle.tq_model.specs.Reading.{site_found}
+use Rattle.tq_model.specs.Faulty.{Condition, Up, Down, Turn, failing_turn, boot_turn, rose_at, turn_at}
+use Rattle.tq_model.proofs.Images.{found_durable}
+use Rattle.tq_device.specs.Content.{IsAnyStep}
+use Rattle.tq_run.specs.declared.manager.Manager.{Manager}
+use Rattle.tq_run.specs.declared.state.State.TheVariants as states
+use Rattle.tq_run.specs.Ending.{trace_of}
+use Rattle.tq_run.specs.Output.{TellsMore, HasBegun}
+use Rattle.tq_run.specs.Manager.{site_of, IsBooted}
+use Rattle.tq_run.specs.Stops.{ImageStands, AreOn, HasNoNewImage, IsOldOrBooted}
+use Rattle.tq_run.specs.Turns.{ImageStandsFor, IsBeforeOrAfter, IsOfLines, origin_of}
+use Rattle.tq_run.specs.Standing.{IsIn, HasReached}
+use Rattle.tq_run.proofs.Attending.{same_found}
+use Rattle.tq_run.proofs.Booting.{read_stands}
+use Rattle.tq_run.proofs.States.{twice, calm, images_in, still_in}
+use Rattle.tq_run.proofs.Stopping.{any_steps}
+use Rattle.tq_run.proofs.Turning.{starts_answered, only_done, line_pictures, line_answered}
+
+-- a boot of a site whose epoch can be raised
+pub boot_is : (s : Site) → can_boot s ≡ true → boot_turn s ≡ record { condition = Up (booted s); answer = ready (booted s) }
+boot_is s e = ap (λ (b : Bool). chosen b) e
+  where
+    chosen : Bool → Turn
+    chosen b =
+        let outcome : Outcome = cond b (record { site = booted s; answer = ready (booted s) }) (record { site = durable s; answer = answers.Damaged 0 }) in
+        record { condition = cond b (Up outcome.site) (Down (outcome.site ∷ [])); answer = outcome.answer }
+
+boot_site : (s : Site) → can_boot s ≡ true → (boot s).site ≡ booted s
+boot_site s e = ap (λ (b : Bool). (cond b (made s) (last s)).site) e
+  where
+    made : Site → Outcome
+    made x = record { site = booted x; answer = ready (booted x) }
+
+    last : Site → Outcome
+    last x = record { site = durable x; answer = answers.Damaged 0 }
+
+-- the turn of line 0
+abbrev pub first_turn : Bool → Site → Turn
+first_turn rose s = cond rose (failing_turn s Boot) (boot_turn s)
+
+first_is : (rose : Bool) (found : Option Site) (s : Site) → turn_at rose found (Up s) Boot ≡ first_turn rose s
+first_is true found s = refl
+first_is false found s = refl
+
+-- an image of a boot is one of line 0's
+image_of_boot : (rose : Bool) (s : Site) (image : List ℕ) → can_boot s ≡ true → ImageStands (booted s) image → ImageStandsFor (first_turn rose s).condition image
+image_of_boot true s image can is = (1, durable (step s Boot).site, omega arith, refl, twice (step s Boot).site image (subst (λ (x : Site). ImageStands x image) (sym (boot_site s can)) is))
+image_of_boot false s image can is = subst (λ (t : Turn). ImageStandsFor t.condition image) (sym (boot_is s can)) is
+
+only_one : (s : Site) (image : List ℕ) → Any (λ x. ImageStands x image) (s ∷ []) → ImageStands s image
+only_one s image any = at any.0 any.1 any.2 any.3 any.4
+  where
+    at : (k : ℕ) (x : Site) → k < 1 → slice_index_or (s ∷ []) k x ≡ x → ImageStands x image → ImageStands s image
+    at zero x below same is = subst (λ (y : Site). ImageStands y image) (sym same) is
+    at (suc k) x below same is = absurd (omega arith)
+
+module _ (found : Site) (a b : View) {r : Result (Unit {0}) Failed} (is : site_found 1 a.reads ≡ Some found) (attached : IsDeviceCall r a b) (same : IsStill a b) where
+  stands_then : IsSettled 0 a → (image : List ℕ) → b.may_leave 0 image → ImageStands found image
+  stands_then settled image may = read_stands a.reads found image is (settled image (same.may_leave 0 image may))
+
+  -- while the device is attached
+  attaching : IsSettled 0 a → (t : Turn) → Within 0 IsAnyStep (IsBeforeOrAfter (Up found) t) a b
+  attaching settled t = record {
+    later = attached.clock.later;
+    own = λ c may. came c may;
+    others = λ d c ne may. same.may_leave d c may;
+    others_read = λ d ne. same.reads d;
+    streams = attached.streams;
+    pictures = λ k p le left. ⊎_elim (λ old. inl old)
+        (λ now. inr (record { own = came (p.images 0) (now.images 0); others = λ d ne. same.may_leave d (p.images d) (now.images d); output = now.output ∙ ap (λ (s : Streams). s.output) attached.streams })) (attached.time k p le left);
+  }
+    where
+      came : (c : List ℕ) → b.may_leave 0 c → Came 0 IsAnyStep (IsBeforeOrAfter (Up found) t) a c
+      came c may = record { image = c; was = same.may_leave 0 c may; step = tt; now = inl (stands_then settled c may) }
+
+  pub attach_pictures : IsSettled 0 a → Ran (IsOfLines (origin_of a) b found (Boot ∷ [])) a b
+  attach_pictures settled =
+      let t = first_turn (nat_lt a.faults b.faults) found in
+      only_done (starts_answered a found) Boot t attached.streams (first_is (nat_lt a.faults b.faults) None found) (attaching settled t)
+
+  module _ (d : View) (streams : d.streams ≡ b.streams)
+      (boots : (sites : List Site) → ((image : List ℕ) → b.may_leave 0 image → Any (λ s. ImageStands s image) sites) → (s : Site) → site_found 1 b.reads ≡ Some s → Within 0 IsAnyStep (IsOldOrBooted sites s) b d) where
+    abbrev t : Turn
+    t = first_turn (nat_lt a.faults d.faults) found
+
+    -- and then booted
+    booting : IsSettled 0 a → Within 0 IsAnyStep (IsBeforeOrAfter (Up found) t) a d
+    booting settled =
+        in_a_row 0 IsAnyStep any_steps (IsBeforeOrAfter (Up found) t) a b d (attaching settled t)
+        (weaker 0 IsAnyStep any_steps (IsOldOrBooted (found ∷ []) found) (IsBeforeOrAfter (Up found) t) b d
+        (λ start image may which. ⊎_elim (λ old. inl (only_one found image old)) (λ new. inr (image_of_boot (nat_lt a.faults d.faults) found image new.0 new.1)) which)
+        (boots (found ∷ []) (λ image may. (0, found, omega arith, refl, stands_then settled image may)) found (same_found b.reads a.reads (same.reads 0) ∙ is)))
+
+    same_streams : d.streams ≡ a.streams
+    same_streams = streams ∙ attached.streams
+
+    pub boot_pictures : IsSettled 0 a → Ran (IsOfLines (origin_of a) d found (Boot ∷ [])) a d
+    boot_pictures settled = only_done (starts_answered a found) Boot t same_streams (first_is (nat_lt a.faults d.faults) None found) (booting settled)
+
+    module _ (m : Manager) (e : View) (boots_is : IsBooted m b d) (calm_boot : d.faults ≡ a.faults) (on : AreOn m d) (same_after : e.faults ≡ d.faults) (none : HasNoNewImage d e) where
+      found_is : boots_is.found ≡ found
+      found_is = some_is boots_is.found found (sym boots_is.stood ∙ same_found b.reads a.reads (same.reads 0) ∙ is)
+        where
+          some_is : (x y : Site) → Some x ≡ Some y → x ≡ y
+          some_is x y e = cc
+
+      booted_to : t ≡ record { condition = Up (booted found); answer = ready (booted found) }
+      booted_to = ap (λ (b : Bool). first_turn b found) (calm a.faults d.faults calm_boot) ∙ boot_is found (ap can_boot (sym found_is) ∙ boots_is.raisable)
+
+      up_after : IsIn (states.Up m) t.condition d
+      up_after = subst (λ (u : Turn). IsIn (states.Up m) u.condition d) (sym booted_to) (record { site = boots_is.site ∙ ap booted found_is; on = on })
+
+      text_is : line_text 0 (ready (site_of m)) ≡ line_text 0 t.answer
+      text_is = ap (λ (s : Site). line_text 0 (ready s)) (boots_is.site ∙ ap booted found_is) ∙ ap (λ (u : Turn). line_text 0 u.answer) (sym booted_to)
+
+      pub first_pictures : IsSettled 0 a → (k : ℕ) → IsGiven k (line_text 0 (ready (site_of m))) d e → Ran (IsGiving (line_text 0 (ready (site_of m))) d e) d e → Ran (IsOfLines (origin_of a) e found (Boot ∷ [])) a e
+      first_pictures settled k given gives =
+          line_pictures (starts_answered a found) Boot t same_streams (first_is (nat_lt a.faults d.faults) None found) same_after (subst (λ (l : List ℕ). IsGiven k l d e) text_is given) (booting settled)
+          (λ image may. images_in (states.Up m) t.condition d image up_after may) none (subst (λ (l : List ℕ). Ran (IsGiving l d e) d e) text_is gives)
+
+      pub first_reached : IsGiven (length (line_text 0 (ready (site_of m)))) (line_text 0 (ready (site_of m))) d e → e.reads 0 ≡ d.reads 0 → HasReached (origin_of a) found (Boot ∷ []) (states.Up m) e
+      first_reached given reads = record {
+        condition = t.condition;
+        answered = line_answered (starts_answered a found) Boot t same_streams (first_is (nat_lt a.faults d.faults) None found) same_after (subst (λ (l : List ℕ). IsGiven (length l) l d e) text_is given) refl (same_found e.reads d.reads reads);
+        is = still_in (states.Up m) t.condition d e none up_after;
+        some = omega arith;
+      }
+
+-- Whether a device failed in line 0, by what is told
+
+pub calm_stamps : (a now : View) (added : List Stamp) → All (λ (s : Stamp). s.faults ≡ a.faults) added → now.faults ≡ a.faults → rose_at (trace_of a now added) 0 ≡ false
+calm_stamps a now [] all same = calm a.faults now.faults same
+calm_stamps a now (s ∷ added) all same = calm a.faults s.faults (all 0 s (omega arith))
+
+-- nothing was given
+pub calm_none : (a now : View) → now.streams.stamps ≡ a.streams.stamps → now.faults ≡ a.faults → (added : List Stamp) → now.streams.stamps ≡ a.streams.stamps ++ added → rose_at (trace_of a now added) 0 ≡ false
+calm_none a now none same added is = subst (λ (l : List Stamp). rose_at (trace_of a now l) 0 ≡ false) (append_cancel_left a.streams.stamps [] added (append-nil a.streams.stamps ∙ sym none ∙ is)) (calm_stamps a now [] (λ k d lt. absurd (omega arith)) same)
+
+-- a part of line 0 was given
+pub calm_given : (a b d : View) (k : ℕ) (text : List ℕ) → b.streams ≡ a.streams → b.faults ≡ a.faults → d.faults ≡ b.faults → IsGiven k text b d → (added : List Stamp) → d.streams.stamps ≡ a.streams.stamps ++ added → rose_at (trace_of a d added) 0 ≡ false
+calm_given a b d k text streams faults same given added is =
+    let told = replicate k (record { faults = b.faults; reads = b.reads }) in
+    subst (λ (l : List Stamp). rose_at (trace_of a d l) 0 ≡ false) (append_cancel_left a.streams.stamps told added (sym (given.stamps ∙ ap (λ (s : Streams). s.stamps ++ told) streams) ∙ is))
+    (calm_stamps a d told (λ j s lt. all_same k (record { faults = b.faults; reads = b.reads }) j s lt faults) (same ∙ faults))
+  where
+    all_same : (k : ℕ) (x : Stamp) (j : ℕ) (s : Stamp) → j < length (replicate k x) → x.faults ≡ a.faults → (slice_index_or (replicate k x) j s).faults ≡ a.faults
+    all_same zero x j s lt e = absurd (omega arith)
+    all_same (suc k) x zero s lt e = e
+    all_same (suc k) x (suc j) s lt e = all_same k x j s (omega arith) e
+
+-- the whole of it was given
+pub begun_given : (a b d : View) (text : List ℕ) → 0 < length text → b.streams ≡ a.streams → b.faults ≡ a.faults → IsGiven (length text) text b d → HasBegun a d
+begun_given a b d [] some streams faults given = absurd (omega arith)
+begun_given a b d (x ∷ text) some streams faults given =
+    let at : Stamp = record { faults = b.faults; reads = b.reads } in
+    record { first = at; rest = replicate (length text) at; stamps = given.stamps ∙ ap (λ (s : Streams). s.stamps ++ at ∷ replicate (length text) at) streams; calm = faults }
+
+-- later stamps tell nothing else of line 0
+pub calm_begun : (a b d : View) → HasBegun a b → TellsMore b d → (added : List Stamp) → d.streams.stamps ≡ a.streams.stamps ++ added → rose_at (trace_of a d added) 0 ≡ false
+calm_begun a b d begun more added is =
+    subst (λ (l : List Stamp). rose_at (trace_of a d l) 0 ≡ false)
+    (append_cancel_left a.streams.stamps (begun.first ∷ (begun.rest ++ more.0)) added
+    (sym (more.1 ∙ ap (λ (l : List Stamp). l ++ more.0) begun.stamps ∙ append_assoc a.streams.stamps (begun.first ∷ begun.rest) more.0) ∙ is))
+    (calm a.faults begun.first.faults begun.calm)

@@ -1,0 +1,263 @@
+-- What a boot within a run leaves, and what it is answered.
+use Rattle.std.proofs.Common.{◌≡◌, ◌≢◌, ◌⊎◌, inl, inr, ⊎_elim, ◌<◌, ℕ, zero, suc, List, [], ◌∷◌, ◌++◌, Option, Some, Bool, true, false, cond, refl, sym, ◌∙◌, ap, subst, arith}
+use Rattle.std.specs.Prelude.{Any, nat_lt, filter, map, option_map}
+use Rattle.std.proofs.lemmas.Bool.Decides.{nat_tests}
+use Rattle.tq_host.specs.View.{Told, TellsAll, View, IsLawful, last}
+use Rattle.tq_host.specs.Within.{Within}
+use Rattle.tq_host.proofs.Within.{weaker}
+use Rattle.tq_model.specs.declared.answer.Answer.TheVariants as answers
+use Rattle.tq_model.specs.declared.request.Request.TheVariants.{Boot}
+use Rattle.tq_model.specs.Site.{Site, durable}
+use Rattle.tq_model.specs.Step.{Outcome, can_boot, booted, boot, ready, with_next_epoch}
+use Rattle.tq_model.specs.Reading.{site_found}
+use Rattle.tq_model.specs.Faulty.{Condition, Up, Down, Turn, boot_turn, reboot_turn, StandFor, turn_at}
+use Rattle.tq_model.proofs.Images.{found_durable}
+use Rattle.tq_device.specs.Content.{IsAnyStep}
+use Rattle.tq_device.proofs.Making.{any_steps}
+use Rattle.tq_run.specs.declared.manager.Manager.{Manager}
+use Rattle.tq_run.specs.declared.state.State.{State}
+use Rattle.tq_run.specs.declared.state.State.TheVariants as states
+use Rattle.tq_run.specs.declared.status.Stop.{Stop}
+use Rattle.tq_run.specs.declared.status.Stop.TheVariants as stops
+use Rattle.tq_run.specs.Counts.{Rises, IsQuiet, StopCounts}
+use Rattle.tq_run.specs.Manager.{site_of, is_bootable, IsBooted}
+use Rattle.tq_run.specs.Stops.{ImageStands, IsOldOrBooted, AreOn}
+use Rattle.tq_run.specs.Turns.{ImageStandsFor, turn_between, IsBeforeOrAfter}
+use Rattle.tq_run.specs.Standing.{IsIn}
+use Rattle.tq_run.proofs.FoundLemmas.{image_stands}
+use Rattle.tq_run.proofs.Booting.{read_stands}
+
+-- Some element of a list
+
+module _ {X : Type 0} (P : X → Type 0) where
+  any_first : (x : X) (xs : List X) → P x → Any P (x ∷ xs)
+  any_first x xs p = (0, x, omega arith, refl, p)
+
+  any_later : (x : X) (xs : List X) → Any P xs → Any P (x ∷ xs)
+  any_later x xs (k, y, below, at, p) = (suc k, y, omega (arith, below), at, p)
+
+  any_split : (x : X) (xs : List X) → Any P (x ∷ xs) → P x ⊎ Any P xs
+  any_split x xs (zero, y, below, at, p) = inl (subst P (sym at) p)
+  any_split x xs (suc k, y, below, at, p) = inr (k, y, omega (arith, below), at, p)
+
+  any_none : Any P [] → ⊥
+  any_none (k, y, below, at, p) = omega (arith, below)
+
+  any_ahead : (xs ys : List X) → Any P xs → Any P (xs ++ ys)
+  any_ahead [] ys any = absurd (any_none any)
+  any_ahead (x ∷ xs) ys any = ⊎_elim (λ p. any_first x (xs ++ ys) p) (λ more. any_later x (xs ++ ys) (any_ahead xs ys more)) (any_split x xs any)
+
+  any_behind : (xs ys : List X) → Any P ys → Any P (xs ++ ys)
+  any_behind [] ys any = any
+  any_behind (x ∷ xs) ys any = any_later x (xs ++ ys) (any_behind xs ys any)
+
+-- what is made of those that pass
+any_made : {X Y : Type 0} (f : X → Y) (test : X → Bool) (P : X → Type 0) (Q : Y → Type 0) (xs : List X) → ((x : X) → P x → (test x ≡ true) × Q (f x)) → Any P xs → Any Q (map f (filter test xs))
+any_made f test P Q [] to any = absurd (any_none P any)
+any_made f test P Q (x ∷ xs) to any = ⊎_elim (λ p. here (to x p)) (λ more. later (test x) (any_made f test P Q xs to more)) (any_split P x xs any)
+  where
+    here : (test x ≡ true) × Q (f x) → Any Q (map f (filter test (x ∷ xs)))
+    here (passes, q) = subst (λ (b : Bool). Any Q (map f (cond b (x ∷ filter test xs) (filter test xs)))) (sym passes) (any_first Q (f x) (map f (filter test xs)) q)
+
+    later : (b : Bool) → Any Q (map f (filter test xs)) → Any Q (map f (cond b (x ∷ filter test xs) (filter test xs)))
+    later true more = any_later Q (f x) (map f (filter test xs)) more
+    later false more = more
+
+-- Conditions
+
+-- the sites for which the devices may stand
+abbrev pub sites_in : Condition → List Site
+sites_in (Up s) = s ∷ []
+sites_in (Down sites) = sites
+
+stand_in : (c : Condition) (image : List ℕ) → ImageStandsFor c image → Any (λ s. ImageStands s image) (sites_in c)
+stand_in (Up s) image stands = any_first (λ s. ImageStands s image) s [] stands
+stand_in (Down sites) image any = any
+
+stand_for : (c : Condition) (image : List ℕ) → Any (λ s. ImageStands s image) (sites_in c) → ImageStandsFor c image
+stand_for (Up s) image any = ⊎_elim (λ stands. stands) (λ none. absurd (any_none (λ s. ImageStands s image) none)) (any_split (λ s. ImageStands s image) s [] any)
+stand_for (Down sites) image any = any
+
+image_in : (state : State) (c : Condition) (v : View) → IsIn state c v → (image : List ℕ) → v.may_leave 0 image → ImageStandsFor c image
+image_in (states.Up m) (Up s) v is image may = subst (λ (x : Site). ImageStands x image) is.site (image_stands m image (is.on image may))
+image_in (states.Up m) (Down sites) v is image may = absurd is
+image_in states.Down (Up s) v is image may = absurd is
+image_in states.Down (Down sites) v is image may = is image may
+
+-- Boots of one site
+
+some_same : (a b : Site) → Some a ≡ Some b → a ≡ b
+some_same a b e = cc
+
+abbrev raised : Site → Site
+raised d = record d { identity = option_map with_next_epoch d.identity }
+
+abbrev outcome_from : Bool → Site → Outcome
+outcome_from raisable d = cond raisable (record { site = raised d; answer = ready (raised d) }) (record { site = d; answer = answers.Damaged 0 })
+
+abbrev turn_from : Bool → Site → Turn
+turn_from raisable d = let outcome = outcome_from raisable d in record { condition = cond raisable (Up outcome.site) (Down (outcome.site ∷ [])); answer = outcome.answer }
+
+abbrev up_turn : Site → Turn
+up_turn s = record { condition = Up (booted s); answer = ready (booted s) }
+
+abbrev damaged_turn : Site → Turn
+damaged_turn s = record { condition = Down (durable s ∷ []); answer = answers.Damaged 0 }
+
+turn_up : (s : Site) → can_boot s ≡ true → boot_turn s ≡ up_turn s
+turn_up s raisable = ap (λ (b : Bool). turn_from b (durable s)) raisable
+
+turn_damaged : (s : Site) → can_boot s ≡ false → boot_turn s ≡ damaged_turn s
+turn_damaged s lost = ap (λ (b : Bool). turn_from b (durable s)) lost
+
+site_up : (s : Site) → can_boot s ≡ true → (boot s).site ≡ booted s
+site_up s raisable = ap (λ (b : Bool). (outcome_from b (durable s)).site) raisable
+
+-- an image stands for a site, which is found there without what a crash takes
+module _ (images : ℕ → List ℕ) (found s : Site) (is : site_found 1 images ≡ Some found) (stands : site_found 1 images ≡ Some (durable s)) where
+  same : found ≡ durable s
+  same = some_same found (durable s) (sym is ∙ stands)
+
+  same_durable : durable found ≡ durable s
+  same_durable = found_durable images found is ∙ same
+
+  same_raisable : can_boot found ≡ can_boot s
+  same_raisable = ap can_boot same
+
+  same_booted : booted found ≡ booted s
+  same_booted = ap raised same_durable
+
+  same_turn : boot_turn found ≡ boot_turn s
+  same_turn = ap (λ (b : Bool). turn_from b (durable found)) same_raisable ∙ ap (λ (d : Site). turn_from (can_boot s) d) same_durable
+
+-- Turns
+
+-- the count did not rise
+quiet_turn : (c : Condition) (images : ℕ → List ℕ) (found : Site) (rose : Bool) → rose ≡ false → site_found 1 images ≡ Some found → ImageStandsFor c (images 0) → turn_at rose (site_found 1 images) c Boot ≡ boot_turn found
+quiet_turn (Up s) images found rose quiet is stands = ap (λ (b : Bool). turn_at b (site_found 1 images) (Up s) Boot) quiet ∙ sym (same_turn images found s is stands)
+quiet_turn (Down sites) images found rose quiet is stands = ap (λ (b : Bool). turn_at b (site_found 1 images) (Down sites) Boot) quiet ∙ ap (λ (o : Option Site). reboot_turn false o sites) is
+
+-- it rose
+rose_answer : (c : Condition) (found : Option Site) → (turn_at true found c Boot).answer ≡ answers.SystemError
+rose_answer (Up s) found = refl
+rose_answer (Down sites) found = refl
+
+-- an image after that
+rose_image : (c : Condition) (images : ℕ → List ℕ) (found : Site) (o : Option Site) (image : List ℕ) → site_found 1 images ≡ Some found → ImageStandsFor c (images 0) → IsOldOrBooted (sites_in c) found image → ImageStandsFor (turn_at true o c Boot).condition image
+rose_image (Up s) images found o image is stands has =
+    let before = durable s in
+    let after = durable (boot s).site in
+    ⊎_elim
+    (λ old.
+    let on : ImageStands s image = stand_for (Up s) image old in
+    any_first (StandFor 1 (λ d. image)) before (after ∷ []) (on ∙ ap (λ (x : Site). Some x) (sym (found_durable (λ d. image) (durable s) on))))
+    (λ (raisable, new).
+    let made : booted found ≡ (boot s).site = same_booted images found s is stands ∙ sym (site_up s (sym (same_raisable images found s is stands) ∙ raisable)) in
+    let on : ImageStands (boot s).site image = subst (λ (x : Site). ImageStands x image) made new in
+    any_later (StandFor 1 (λ d. image)) before (after ∷ []) (any_first (StandFor 1 (λ d. image)) after [] (on ∙ ap (λ (x : Site). Some x) (sym (found_durable (λ d. image) after on))))) has
+rose_image (Down sites) images found o image is stands has =
+    ⊎_elim
+    (λ old. any_ahead (StandFor 1 (λ d. image)) sites (map booted (filter can_boot sites)) old)
+    (λ (raisable, new). any_behind (StandFor 1 (λ d. image)) sites (map booted (filter can_boot sites))
+    (any_made booted can_boot (λ s. ImageStands s (images 0)) (StandFor 1 (λ d. image)) sites
+    (λ s on. (sym (same_raisable images found s is on) ∙ raisable, subst (λ (x : Site). ImageStands x image) (same_booted images found s is on) new)) stands)) has
+
+-- and the state in memory is down
+rose_in : (c : Condition) (o : Option Site) (v : View) → ((image : List ℕ) → v.may_leave 0 image → ImageStandsFor (turn_at true o c Boot).condition image) → IsIn states.Down (turn_at true o c Boot).condition v
+rose_in (Up s) o v are = are
+rose_in (Down sites) o v are = are
+
+not_below : (before now : ℕ) → now ≡ before → nat_lt before now ≡ false
+not_below before now same = grind (arith, nat_tests)
+
+below_now : (before now : ℕ) → Rises before now → now < last → nat_lt before now ≡ true
+below_now before now rises lt = grind (arith, nat_tests, rises.rose)
+
+-- A boot
+
+-- the ways in which one ends without a site that are none of the device
+pub other_stop : (e : Stop) (old new : View) → e ≢ stops.Device → ((e ≢ stops.Damaged) → (e ≢ stops.Memory) → e ≡ stops.Device) → StopCounts e old new → IsQuiet old new
+other_stop stops.Damaged old new not three counts = counts
+other_stop stops.Memory old new not three counts = counts
+other_stop stops.TooMuchInput old new not three counts = counts
+other_stop stops.Device old new not three counts = absurd (not refl)
+other_stop stops.Input old new not three counts = absurd (not (three (λ e. cc) (λ e. cc)))
+other_stop stops.Output old new not three counts = absurd (not (three (λ e. cc) (λ e. cc)))
+
+module _ {tells : Told} (t : TellsAll tells) (old new : View) (lawful : IsLawful tells old) (state : State) (c : Condition) (is : IsIn state c old) where
+  read_is : ImageStandsFor c (old.reads 0)
+  read_is = image_in state c old is (old.reads 0) (lawful.reads_an_image t.stops 0)
+
+  abbrev the_turn : Turn
+  the_turn = turn_between old.faults new.faults old.reads c Boot
+
+  -- what is read stands for one of the sites
+  found_is : (s : Site) × ImageStands s (old.reads 0)
+  found_is = let (k, s, below, at, on) = stand_in c (old.reads 0) read_is in (s, on)
+
+  found : Site
+  found = durable found_is.0
+
+  is_found : site_found 1 old.reads ≡ Some found
+  unfolding found
+  is_found = found_is.1
+
+  module _ (quiet : IsQuiet old new) where
+    turn_is : the_turn ≡ boot_turn found
+    turn_is = quiet_turn c old.reads found (nat_lt old.faults new.faults) (not_below old.faults new.faults quiet.device) is_found read_is
+
+    -- the site is in memory
+    module _ (m : Manager) (boot : IsBooted m old new) where
+      is_up : the_turn ≡ record { condition = Up (site_of m); answer = ready (site_of m) }
+      is_up =
+          let same : boot.found ≡ found = some_same boot.found found (sym boot.stood ∙ is_found) in
+          turn_is ∙ turn_up found (ap can_boot (sym same) ∙ boot.raisable) ∙ ap (λ (s : Site). record { condition = Up s; answer = ready s }) (ap booted (sym same) ∙ sym boot.site)
+
+      pub up_answer : ready (site_of m) ≡ the_turn.answer
+      up_answer = sym (ap (λ (u : Turn). u.answer) is_up)
+
+      pub up_in : AreOn m new → IsIn (states.Up m) the_turn.condition new
+      up_in on = subst (λ (u : Turn). IsIn (states.Up m) u.condition new) (sym is_up) (record { site = refl; on = on })
+
+    -- the last epoch stands
+    module _ (lost : is_bootable (site_found 1 old.reads) ≡ false) where
+      is_damaged : the_turn ≡ damaged_turn found
+      is_damaged = turn_is ∙ turn_damaged found (ap is_bootable (sym is_found) ∙ lost)
+
+      pub damaged_answer : answers.Damaged 0 ≡ the_turn.answer
+      damaged_answer = sym (ap (λ (u : Turn). u.answer) is_damaged)
+
+      pub damaged_in : ((image : List ℕ) → new.may_leave 0 image → image ≡ old.reads 0) → IsIn states.Down the_turn.condition new
+      damaged_in settled =
+          subst (λ (u : Turn). IsIn states.Down u.condition new) (sym is_damaged)
+          (λ image may. any_first (StandFor 1 (λ d. image)) (durable found) [] (read_stands old.reads (durable found) image (is_found ∙ ap (λ (s : Site). Some s) (sym (found_durable old.reads found is_found))) (settled image may)))
+
+  module _ (boots : (sites : List Site) → ((image : List ℕ) → old.may_leave 0 image → Any (λ s. ImageStands s image) sites) → (s : Site) → site_found 1 old.reads ≡ Some s → Within 0 IsAnyStep (IsOldOrBooted sites s) old new) where
+    within : Within 0 IsAnyStep (IsOldOrBooted (sites_in c) found) old new
+    within = boots (sites_in c) (λ image may. stand_in c image (image_in state c old is image may)) found is_found
+
+    pub quiet_stop : IsQuiet old new → Within 0 IsAnyStep (IsBeforeOrAfter c the_turn) old new
+    quiet_stop quiet =
+        weaker 0 IsAnyStep any_steps (IsOldOrBooted (sites_in c) found) (IsBeforeOrAfter c the_turn) old new (λ i image was has. ⊎_elim
+        (λ before. inl (stand_for c image before))
+        (λ (raisable, on). inr (subst (λ (u : Turn). ImageStandsFor u.condition image) (sym (turn_is quiet ∙ turn_up found raisable)) on)) has) within
+
+    -- the device failed
+    module _ (rises : Rises old.faults new.faults) (lt : new.faults < last) where
+      has_failed : the_turn ≡ turn_at true (site_found 1 old.reads) c Boot
+      has_failed = ap (λ (b : Bool). turn_at b (site_found 1 old.reads) c Boot) (below_now old.faults new.faults rises lt)
+
+      failed_image : (image : List ℕ) → IsOldOrBooted (sites_in c) found image → ImageStandsFor (turn_at true (site_found 1 old.reads) c Boot).condition image
+      failed_image image has = rose_image c old.reads found (site_found 1 old.reads) image is_found read_is has
+
+      pub failed_answer : answers.SystemError ≡ the_turn.answer
+      failed_answer = sym (ap (λ (u : Turn). u.answer) has_failed ∙ rose_answer c (site_found 1 old.reads))
+
+      pub failed_in : IsIn states.Down the_turn.condition new
+      failed_in = subst (λ (u : Turn). IsIn states.Down u.condition new) (sym has_failed) (rose_in c (site_found 1 old.reads) new (λ image may. failed_image image (within.own image may).now))
+
+      pub failed_stop : Within 0 IsAnyStep (IsBeforeOrAfter c the_turn) old new
+      failed_stop =
+          weaker 0 IsAnyStep any_steps (IsOldOrBooted (sites_in c) found) (IsBeforeOrAfter c the_turn) old new (λ i image was has. ⊎_elim
+          (λ before. inl (stand_for c image before))
+          (λ after. inr (subst (λ (u : Turn). ImageStandsFor u.condition image) (sym has_failed) (failed_image image (inr after)))) has) within

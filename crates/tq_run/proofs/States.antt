@@ -1,0 +1,215 @@
+-- A line that is done while there is a site, and one while there is none.
+use Rattle.std.proofs.Common.{◌≡◌, ◌≢◌, ◌⊎◌, inl, inr, ◌<◌, ◌≤◌, ℕ, ◌+◌, List, [], ◌∷◌, Option, Some, Bool, true, false, refl, sym, ◌∙◌, ap, subst, arith}
+use Rattle.std.specs.Prelude.{nat_lt}
+use Rattle.std.proofs.lemmas.Bool.Decides.{nat_tests}
+use Rattle.tq_host.specs.View.{View, last}
+use Rattle.tq_host.specs.Within.{Within}
+use Rattle.tq_host.proofs.Within.{weaker, starts}
+use Rattle.tq_model.specs.declared.answer.Answer.{Answer}
+use Rattle.tq_model.specs.declared.answer.Answer.TheVariants as answers
+use Rattle.tq_model.specs.declared.request.Request.{Request}
+use Rattle.tq_model.specs.declared.request.Request.TheVariants.{Nothing, Boot, Bad, TooLong, Device, Space, Call}
+use Rattle.tq_model.specs.Site.{Site, durable}
+use Rattle.tq_model.specs.Step.{step}
+use Rattle.tq_model.specs.Reading.{site_found}
+use Rattle.tq_model.specs.Faulty.{Condition, Up, Down, Turn, down_turn, down_answer, failing_turn, steady_turn, turn_at}
+use Rattle.tq_model.proofs.Images.{found_durable}
+use Rattle.tq_device.specs.Content.{IsAnyStep}
+use Rattle.tq_run.specs.declared.manager.Manager.{Manager}
+use Rattle.tq_run.specs.declared.state.State.{State}
+use Rattle.tq_run.specs.declared.state.State.TheVariants as states
+use Rattle.tq_run.specs.declared.status.Stop.{Stop}
+use Rattle.tq_run.specs.declared.status.Stop.TheVariants.{Damaged, Memory, Input, Output, Device as Failed, TooMuchInput}
+use Rattle.tq_run.specs.Counts.{Rises, StopCounts}
+use Rattle.tq_run.specs.Manager.{site_of}
+use Rattle.tq_run.specs.Stops.{AreOn, IsEither, ImageStands, HasNoNewImage}
+use Rattle.tq_run.specs.Turns.{ImageStandsFor, turn_between, IsBeforeOrAfter}
+use Rattle.tq_run.specs.Standing.{IsIn, IsUp, HasTurned, IsTurning}
+use Rattle.tq_run.proofs.FoundLemmas.{image_stands}
+use Rattle.tq_run.proofs.Stopping.{any_steps}
+
+-- whether a count rose
+pub calm : (before now : ℕ) → now ≡ before → nat_lt before now ≡ false
+calm before now same = grind (arith, nat_tests)
+
+pub risen : (before now : ℕ) → Rises before now → now < last → nat_lt before now ≡ true
+risen before now rises below = let more : before < now = omega (arith, rises.rose, below) in grind (arith, nat_tests)
+
+-- Up
+
+pub up_only : (m : Manager) (c : Condition) (v : View) → IsIn (states.Up m) c v → (c ≡ Up (site_of m)) × AreOn m v
+up_only m (Up s) v is = (ap Up (sym is.site), is.on)
+up_only m (Down sites) v is = absurd is
+
+steady_is : (s : Site) (request : Request) → request ≢ Boot → steady_turn s request ≡ record { condition = Up (step s request).site; answer = (step s request).answer }
+steady_is s Nothing ne = refl
+steady_is s Boot ne = absurd (ne refl)
+steady_is s (Bad column) ne = refl
+steady_is s TooLong ne = refl
+steady_is s (Device request) ne = refl
+steady_is s (Space request) ne = refl
+steady_is s (Call request) ne = refl
+
+pub steady_between : (s : Site) (r : Request) (before now : ℕ) (reads : ℕ → List ℕ) → r ≢ Boot → now ≡ before → turn_between before now reads (Up s) r ≡ record { condition = Up (step s r).site; answer = (step s r).answer }
+steady_between s r before now reads ne same = ap (λ (b : Bool). turn_at b (site_found 1 reads) (Up s) r) (calm before now same) ∙ steady_is s r ne
+
+pub failing_between : (s : Site) (r : Request) (before now : ℕ) (reads : ℕ → List ℕ) → Rises before now → now < last → turn_between before now reads (Up s) r ≡ failing_turn s r
+failing_between s r before now reads rises below = ap (λ (b : Bool). turn_at b (site_found 1 reads) (Up s) r) (risen before now rises below)
+
+-- the pictures of a line in which nothing failed, and of one in which a device did
+pub steady_pictures : (s : Site) (r : Request) (t : Turn) (a b : View) → t ≡ record { condition = Up (step s r).site; answer = (step s r).answer }
+    → Within 0 IsAnyStep (IsEither s (step s r).site) a b → Within 0 IsAnyStep (IsBeforeOrAfter (Up s) t) a b
+steady_pictures s r t a b is within = subst (λ (u : Turn). Within 0 IsAnyStep (IsBeforeOrAfter (Up s) u) a b) (sym is) within
+
+-- a crash of what a crash left changes nothing
+pub twice : (s : Site) (image : List ℕ) → ImageStands s image → ImageStands (durable s) image
+twice s image is = is ∙ ap (λ (x : Site). Some x) (sym (found_durable (λ d. image) (durable s) is))
+
+-- an image that stands for one of two sites is one of a list of both
+pub one_of_two : (s t : Site) (image : List ℕ) → IsEither s t image → ImageStandsFor (Down (durable s ∷ durable t ∷ [])) image
+one_of_two s t image (inl old) = (0, durable s, omega arith, refl, twice s image old)
+one_of_two s t image (inr new) = (1, durable t, omega arith, refl, twice t image new)
+
+pub failing_pictures : (s : Site) (r : Request) (t : Turn) (a b : View) → t ≡ failing_turn s r
+    → Within 0 IsAnyStep (IsEither s (step s r).site) a b → Within 0 IsAnyStep (IsBeforeOrAfter (Up s) t) a b
+failing_pictures s r t a b is within =
+    subst (λ (u : Turn). Within 0 IsAnyStep (IsBeforeOrAfter (Up s) u) a b) (sym is)
+    (weaker 0 IsAnyStep any_steps (IsEither s (step s r).site) (IsBeforeOrAfter (Up s) (failing_turn s r)) a b (λ start image may either. inr (one_of_two s (step s r).site image either)) within)
+
+-- each image after a line that failed
+pub failed_images : (s : Site) (r : Request) (a b : View) → Within 0 IsAnyStep (IsEither s (step s r).site) a b → IsIn states.Down (failing_turn s r).condition b
+failed_images s r a b within = λ image may. one_of_two s (step s r).site image (within.own image may).now
+
+-- Down
+
+pub down_is : (rose : Bool) (found : Option Site) (sites : List Site) (r : Request) → r ≢ Boot → turn_at rose found (Down sites) r ≡ record { condition = Down sites; answer = down_answer r }
+down_is rose found sites Nothing ne = refl
+down_is rose found sites Boot ne = absurd (ne refl)
+down_is rose found sites (Bad column) ne = refl
+down_is rose found sites TooLong ne = refl
+down_is rose found sites (Device request) ne = refl
+down_is rose found sites (Space request) ne = refl
+down_is rose found sites (Call request) ne = refl
+
+-- the turn of a line while there is no site
+pub down_between : (c : Condition) (r : Request) (before now : ℕ) (reads : ℕ → List ℕ) (v : View) → r ≢ Boot → IsIn states.Down c v → turn_between before now reads c r ≡ record { condition = c; answer = down_answer r }
+down_between (Up s) r before now reads v ne is = absurd is
+down_between (Down sites) r before now reads v ne is = down_is (nat_lt before now) (site_found 1 reads) sites r ne
+
+pub down_images : (c : Condition) (v : View) (image : List ℕ) → IsIn states.Down c v → v.may_leave 0 image → ImageStandsFor c image
+down_images (Up s) v image is may = absurd is
+down_images (Down sites) v image is may = is image may
+
+pub down_pictures : (c : Condition) (t : Turn) (v : View) → IsIn states.Down c v → Within 0 IsAnyStep (IsBeforeOrAfter c t) v v
+down_pictures c t v is = starts 0 IsAnyStep any_steps (IsBeforeOrAfter c t) v (λ image may. inl (down_images c v image is may))
+
+-- In any state
+
+-- each image stands for the condition
+pub images_in : (state : State) (c : Condition) (v : View) (image : List ℕ) → IsIn state c v → v.may_leave 0 image → ImageStandsFor c image
+images_in (states.Up m) (Up s) v image is may = subst (λ (x : Site). ImageStands x image) is.site (image_stands m image (is.on image may))
+images_in (states.Up m) (Down sites) v image is may = absurd is
+images_in states.Down (Up s) v image is may = absurd is
+images_in states.Down (Down sites) v image is may = is image may
+
+-- where no image is new
+pub still_in : (state : State) (c : Condition) (a b : View) → HasNoNewImage a b → IsIn state c a → IsIn state c b
+still_in (states.Up m) (Up s) a b none is = record { site = is.site; on = λ image may. is.on image (none 0 image may) }
+still_in (states.Up m) (Down sites) a b none is = absurd is
+still_in states.Down (Up s) a b none is = absurd is
+still_in states.Down (Down sites) a b none is = λ image may. is image (none 0 image may)
+
+-- What a line that is served came to
+
+module _ (m : Manager) (request : Request) (a b : View) (ne : request ≢ Boot) where
+  abbrev s : Site
+  s = site_of m
+
+  -- done, and no device failed
+  pub served : (m' : Manager) (answer : Answer) → b.faults ≡ a.faults → answer ≡ (step (site_of m) request).answer → site_of m' ≡ (step (site_of m) request).site → (AreOn m a → AreOn m' b)
+      → HasTurned (states.Up m) (states.Up m') request answer a b
+  served m' answer same said site on = record {
+    answer = λ c is.
+        let up = up_only m c a is in
+        subst (λ (x : Condition). answer ≡ (turn_between a.faults b.faults a.reads x request).answer) (sym up.0) (said ∙ ap (λ (t : Turn). t.answer) (sym (steady_between s request a.faults b.faults a.reads ne same)));
+    then = λ c is.
+        let up = up_only m c a is in
+        subst (λ (x : Condition). IsIn (states.Up m') (turn_between a.faults b.faults a.reads x request).condition b) (sym up.0)
+        (subst (λ (t : Turn). IsIn (states.Up m') t.condition b) (sym (steady_between s request a.faults b.faults a.reads ne same)) (record { site = site; on = on up.1 }));
+  }
+
+  pub serving : b.faults ≡ a.faults → (AreOn m a → Within 0 IsAnyStep (IsEither (site_of m) (step (site_of m) request).site) a b) → IsTurning (states.Up m) request a b
+  serving same stop = record {
+    within = λ c is.
+        let up = up_only m c a is in
+        subst (λ (x : Condition). Within 0 IsAnyStep (IsBeforeOrAfter x (turn_between a.faults b.faults a.reads x request)) a b) (sym up.0)
+        (steady_pictures s request (turn_between a.faults b.faults a.reads (Up (site_of m)) request) a b (steady_between s request a.faults b.faults a.reads ne same) (stop up.1));
+  }
+
+  -- a device failed
+  pub failed : Rises a.faults b.faults → b.faults < last → (AreOn m a → Within 0 IsAnyStep (IsEither (site_of m) (step (site_of m) request).site) a b) → HasTurned (states.Up m) states.Down request answers.SystemError a b
+  failed rises below stop = record {
+    answer = λ c is.
+        let up = up_only m c a is in
+        subst (λ (x : Condition). answers.SystemError ≡ (turn_between a.faults b.faults a.reads x request).answer) (sym up.0) (ap (λ (t : Turn). t.answer) (sym (failing_between s request a.faults b.faults a.reads rises below)));
+    then = λ c is.
+        let up = up_only m c a is in
+        subst (λ (x : Condition). IsIn states.Down (turn_between a.faults b.faults a.reads x request).condition b) (sym up.0)
+        (subst (λ (t : Turn). IsIn states.Down t.condition b) (sym (failing_between s request a.faults b.faults a.reads rises below)) (failed_images s request a b (stop up.1)));
+  }
+
+  pub failing : Rises a.faults b.faults → b.faults < last → (AreOn m a → Within 0 IsAnyStep (IsEither (site_of m) (step (site_of m) request).site) a b) → IsTurning (states.Up m) request a b
+  failing rises below stop = record {
+    within = λ c is.
+        let up = up_only m c a is in
+        subst (λ (x : Condition). Within 0 IsAnyStep (IsBeforeOrAfter x (turn_between a.faults b.faults a.reads x request)) a b) (sym up.0)
+        (failing_pictures s request (turn_between a.faults b.faults a.reads (Up (site_of m)) request) a b (failing_between s request a.faults b.faults a.reads rises below) (stop up.1));
+  }
+
+  -- it ended without an answer
+  pub ended : (stop : Stop) → StopCounts stop a b → (stop ≢ Memory → stop ≡ Failed) → b.faults < last → (AreOn m a → Within 0 IsAnyStep (IsEither (site_of m) (step (site_of m) request).site) a b) → IsTurning (states.Up m) request a b
+  ended Memory counts two below stop = serving counts.device stop
+  ended Failed counts two below stop = failing counts.device below stop
+  ended Damaged counts two below stop = absurd (unlike (two (λ e. cc)))
+    where
+      unlike : Damaged ≡ Failed → ⊥
+      unlike e = cc
+  ended Input counts two below stop = absurd (unlike (two (λ e. cc)))
+    where
+      unlike : Input ≡ Failed → ⊥
+      unlike e = cc
+  ended Output counts two below stop = absurd (unlike (two (λ e. cc)))
+    where
+      unlike : Output ≡ Failed → ⊥
+      unlike e = cc
+  ended TooMuchInput counts two below stop = absurd (unlike (two (λ e. cc)))
+    where
+      unlike : TooMuchInput ≡ Failed → ⊥
+      unlike e = cc
+
+pub stop_later : (stop : Stop) (a b : View) → StopCounts stop a b → a.faults ≤ b.faults
+stop_later Memory a b counts = omega (arith, counts.device)
+stop_later Failed a b counts = counts.device.later
+stop_later Damaged a b counts = omega (arith, counts.device)
+stop_later Input a b counts = omega (arith, counts.device)
+stop_later Output a b counts = omega (arith, counts.device)
+stop_later TooMuchInput a b counts = omega (arith, counts.device)
+
+-- where no device failed
+pub quiet_unless : (stop : Stop) (a b : View) → StopCounts stop a b → stop ≢ Failed → b.faults ≡ a.faults
+quiet_unless Memory a b counts other = counts.device
+quiet_unless Failed a b counts other = absurd (other refl)
+quiet_unless Damaged a b counts other = counts.device
+quiet_unless Input a b counts other = counts.device
+quiet_unless Output a b counts other = counts.device
+quiet_unless TooMuchInput a b counts other = counts.device
+
+-- and one while there is no site
+pub refused : (request : Request) (a : View) → request ≢ Boot → HasTurned states.Down states.Down request (down_answer request) a a
+refused request a ne = record {
+  answer = λ c is. ap (λ (t : Turn). t.answer) (sym (down_between c request a.faults a.faults a.reads a ne is));
+  then = λ c is. subst (λ (t : Turn). IsIn states.Down t.condition a) (sym (down_between c request a.faults a.faults a.reads a ne is)) is;
+}
+
+pub refusing : (request : Request) (a : View) → IsTurning states.Down request a a
+refusing request a = record { within = λ c is. down_pictures c (turn_between a.faults a.faults a.reads c request) a is }

@@ -1,0 +1,123 @@
+use Rattle.std.proofs.Common.{◌≡◌, ◌≢◌, ◌<◌, ◌≤◌, ◌+◌, ℕ, List, [], ◌∷◌, ◌++◌, Result, Ok, Err, length, refl, sym, ◌∙◌, ap, subst, rules, arith}
+use Rattle.tq_host.specs.View.{Streams, TellsAll, last}
+use Rattle.tq_host.specs.Calls.{IsGiven, IsGiving}
+use Rattle.tq_host.specs.Within.{Ran}
+use Rattle.tq_model.specs.Text.{line_text}
+use Rattle.tq_model.specs.declared.answer.Answer.{Answer}
+use Rattle.tq_run.specs.Counts.{IsQuiet}
+use Rattle.tq_run.specs.declared.status.Stop.TheVariants.{Damaged}
+use Rattle.tq_run.specs.Manager.{is_bootable}
+use Rattle.tq_run.proofs.Attending.{same_found, was_bootable}
+use Rattle.tq_model.proofs.LineText.{length-line_text}
+use Rattle.tq_run.proofs.Beginning.{attach_pictures, boot_pictures, first_pictures, first_reached, calm_none, calm_given, begun_given}
+use Rattle.tq_run.proofs.Going.{tells_none, tells_given}
+use Rattle.tq_run.proofs.CountLemmas.{of_ok, ok_before, at_err}
+use Rattle.tq_run.proofs.States.{quiet_unless}
+use Rattle.tq_run.proofs.running.begin.Goals as goal
+
+pub returns-in_err-map_err-clause-stop : goal.returns-in_err-map_err-clause-stop
+returns-in_err-map_err-clause-stop g c = λ t below settled found is raisable.
+    attach_pictures found (g.H.Host.view c.args.host.now) (g.H.Host.view c.attach.new.self) is c.attach.ensures.call c.attach.ensures.still settled
+
+pub returns-in_err-manager-clause-stop : goal.returns-in_err-manager-clause-stop
+returns-in_err-manager-clause-stop g c = λ t below settled found is raisable.
+    boot_pictures found (g.H.Host.view c.args.host.now) (g.H.Host.view c.attach.new.self) is c.attach.ensures.call c.attach.ensures.still (g.H.Host.view c.boot.new.host) c.boot.ensures.rest.streams (c.boot.ensures.stop t.reads) settled
+
+pub returns-in_err-give_answer-clause-stop : goal.returns-in_err-give_answer-clause-stop
+returns-in_err-give_answer-clause-stop g c = λ t below settled found is raisable.
+    let a = g.H.Host.view c.args.host.now in
+    let b = g.H.Host.view c.attach.new.self in
+    let d = g.H.Host.view c.boot.new.host in
+    let e = g.H.Host.view c.give_answer.new.host in
+    let quiet : IsQuiet b d = c.in_ok-manager.ensures.counts in
+    let attached : b.faults ≡ a.faults = of_ok c.attach.result _ _ (ok_before _ _ _ _ c.map_err.ensures.cases c.in_ok-map_err.was) c.attach.ensures.call.cause.ok in
+    let some = c.give_answer.ensures.some t.output in
+    first_pictures found a b is c.attach.ensures.call c.attach.ensures.still d c.boot.ensures.rest.streams (c.boot.ensures.stop t.reads) c.in_ok-manager.manager e (c.in_ok-manager.ensures.booted t.reads) (quiet.device ∙ attached)
+    (c.in_ok-manager.ensures.on t.reads) c.give_answer.ensures.faults c.give_answer.ensures.images settled some.0
+    (subst (λ (ans : Answer). IsGiven some.0 (line_text 0 ans) d e) c.readiness.ensures some.1) (subst (λ (ans : Answer). Ran (IsGiving (line_text 0 ans) d e) d e) c.readiness.ensures c.give_answer.ensures.gives)
+
+pub returns-clause-stop : goal.returns-clause-stop
+returns-clause-stop g c = λ t below settled found is raisable.
+    let a = g.H.Host.view c.args.host.now in
+    let b = g.H.Host.view c.attach.new.self in
+    let d = g.H.Host.view c.boot.new.host in
+    let e = g.H.Host.view c.give_answer.new.host in
+    let quiet : IsQuiet b d = c.in_ok-manager.ensures.counts in
+    let attached : b.faults ≡ a.faults = of_ok c.attach.result _ _ (ok_before _ _ _ _ c.map_err.ensures.cases c.in_ok-map_err.was) c.attach.ensures.call.cause.ok in
+    let some = c.give_answer.ensures.some t.output in
+    first_pictures found a b is c.attach.ensures.call c.attach.ensures.still d c.boot.ensures.rest.streams (c.boot.ensures.stop t.reads) c.in_ok-manager.manager e (c.in_ok-manager.ensures.booted t.reads) (quiet.device ∙ attached)
+    (c.in_ok-manager.ensures.on t.reads) c.give_answer.ensures.faults c.give_answer.ensures.images settled some.0
+    (subst (λ (ans : Answer). IsGiven some.0 (line_text 0 ans) d e) c.readiness.ensures some.1) (subst (λ (ans : Answer). Ran (IsGiving (line_text 0 ans) d e) d e) c.readiness.ensures c.give_answer.ensures.gives)
+
+pub returns-clause-reached : goal.returns-clause-reached
+returns-clause-reached g c = λ t found is.
+    let a = g.H.Host.view c.args.host.now in
+    let b = g.H.Host.view c.attach.new.self in
+    let d = g.H.Host.view c.boot.new.host in
+    let e = g.H.Host.view c.give_answer.new.host in
+    let quiet : IsQuiet b d = c.in_ok-manager.ensures.counts in
+    let attached : b.faults ≡ a.faults = of_ok c.attach.result _ _ (ok_before _ _ _ _ c.map_err.ensures.cases c.in_ok-map_err.was) c.attach.ensures.call.cause.ok in
+    first_reached found a b is c.attach.ensures.call c.attach.ensures.still d c.boot.ensures.rest.streams (c.boot.ensures.stop t.reads) c.in_ok-manager.manager e (c.in_ok-manager.ensures.booted t.reads) (quiet.device ∙ attached)
+    (c.in_ok-manager.ensures.on t.reads) c.give_answer.ensures.faults c.give_answer.ensures.images
+    (subst (λ (ans : Answer). IsGiven (length (line_text 0 ans)) (line_text 0 ans) d e) c.readiness.ensures (c.in_ok-give_answer.ensures.gave t.output)) (c.give_answer.ensures.still 0)
+
+pub returns-in_err-manager-clause-damaged : goal.returns-in_err-manager-clause-damaged
+returns-in_err-manager-clause-damaged g c = λ e t.
+    let a = (g.H.Host.view c.args.host.now).reads in
+    let b = (g.H.Host.view c.attach.new.self).reads in
+    let failed : c.boot.result ≡ Err Damaged = search rules in
+    ap is_bootable (sym (same_found b a (c.attach.ensures.still.reads 0))) ∙ c.boot.ensures.damaged failed t
+
+pub returns-in_err-give_answer-clause-bootable : goal.returns-in_err-give_answer-clause-bootable
+returns-in_err-give_answer-clause-bootable g c = λ damaged device memory t.
+    was_bootable c.in_ok-manager.manager (g.H.Host.view c.args.host.now) (g.H.Host.view c.attach.new.self) (g.H.Host.view c.boot.new.host) (c.attach.ensures.still.reads 0) (c.in_ok-manager.ensures.booted t)
+
+pub returns-clause-bootable : goal.returns-clause-bootable
+returns-clause-bootable g c = λ damaged device memory t.
+    was_bootable c.in_ok-manager.manager (g.H.Host.view c.args.host.now) (g.H.Host.view c.attach.new.self) (g.H.Host.view c.boot.new.host) (c.attach.ensures.still.reads 0) (c.in_ok-manager.ensures.booted t)
+
+pub returns-in_err-manager-clause-calm : goal.returns-in_err-manager-clause-calm
+returns-in_err-manager-clause-calm g c =
+    let a = g.H.Host.view c.args.host.now in
+    let b = g.H.Host.view c.attach.new.self in
+    let d = g.H.Host.view c.boot.new.host in
+    let attached : b.faults ≡ a.faults = of_ok c.attach.result _ _ (ok_before _ _ _ _ c.map_err.ensures.cases c.in_ok-map_err.was) c.attach.ensures.call.cause.ok in
+    let result = c.from_residual-in_err-manager.result in
+    let same : result ≡ Err c.in_err-manager.field-0.0 = search rules in
+    at_err result _ (λ no t. calm_none a d (ap (λ (s : Streams). s.stamps) (c.boot.ensures.rest.streams ∙ c.attach.ensures.call.streams)) (quiet_unless c.in_err-manager.field-0.0 b d c.in_err-manager.ensures.counts (λ e. no (same ∙ ap Err e)) ∙ attached))
+
+pub returns-in_err-give_answer-clause-calm : goal.returns-in_err-give_answer-clause-calm
+returns-in_err-give_answer-clause-calm g c =
+    let a = g.H.Host.view c.args.host.now in
+    let b = g.H.Host.view c.attach.new.self in
+    let d = g.H.Host.view c.boot.new.host in
+    let e = g.H.Host.view c.give_answer.new.host in
+    let quiet : IsQuiet b d = c.in_ok-manager.ensures.counts in
+    let attached : b.faults ≡ a.faults = of_ok c.attach.result _ _ (ok_before _ _ _ _ c.map_err.ensures.cases c.in_ok-map_err.was) c.attach.ensures.call.cause.ok in
+    at_err c.from_residual-in_err-give_answer.result _
+    (λ no t. let some = c.give_answer.ensures.some t in calm_given a d e some.0 _ (c.boot.ensures.rest.streams ∙ c.attach.ensures.call.streams) (quiet.device ∙ attached) c.give_answer.ensures.faults some.1)
+
+pub returns-clause-begun : goal.returns-clause-begun
+returns-clause-begun g c = λ t.
+    let a = g.H.Host.view c.args.host.now in
+    let b = g.H.Host.view c.attach.new.self in
+    let d = g.H.Host.view c.boot.new.host in
+    let e = g.H.Host.view c.give_answer.new.host in
+    let quiet : IsQuiet b d = c.in_ok-manager.ensures.counts in
+    let attached : b.faults ≡ a.faults = of_ok c.attach.result _ _ (ok_before _ _ _ _ c.map_err.ensures.cases c.in_ok-map_err.was) c.attach.ensures.call.cause.ok in
+    begun_given a d e _ (length-line_text 0 _) (c.boot.ensures.rest.streams ∙ c.attach.ensures.call.streams) (quiet.device ∙ attached) (c.in_ok-give_answer.ensures.gave t)
+
+pub returns-in_err-map_err-clause-told : goal.returns-in_err-map_err-clause-told
+returns-in_err-map_err-clause-told g c = λ t. tells_none (g.H.Host.view c.args.host.now) (g.H.Host.view c.attach.new.self) (ap (λ (s : Streams). s.stamps) c.attach.ensures.call.streams)
+
+pub returns-in_err-manager-clause-told : goal.returns-in_err-manager-clause-told
+returns-in_err-manager-clause-told g c = λ t.
+    tells_none (g.H.Host.view c.args.host.now) (g.H.Host.view c.boot.new.host) (ap (λ (s : Streams). s.stamps) (c.boot.ensures.rest.streams ∙ c.attach.ensures.call.streams))
+
+pub returns-in_err-give_answer-clause-told : goal.returns-in_err-give_answer-clause-told
+returns-in_err-give_answer-clause-told g c = λ t.
+    tells_given (g.H.Host.view c.args.host.now) (g.H.Host.view c.boot.new.host) (g.H.Host.view c.give_answer.new.host) (c.boot.ensures.rest.streams ∙ c.attach.ensures.call.streams) (c.give_answer.ensures.some t).0 _ (c.give_answer.ensures.some t).1
+
+pub returns-clause-told : goal.returns-clause-told
+returns-clause-told g c = λ t.
+    tells_given (g.H.Host.view c.args.host.now) (g.H.Host.view c.boot.new.host) (g.H.Host.view c.give_answer.new.host) (c.boot.ensures.rest.streams ∙ c.attach.ensures.call.streams) (c.give_answer.ensures.some t).0 _ (c.give_answer.ensures.some t).1

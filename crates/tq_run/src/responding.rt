@@ -1,0 +1,128 @@
+ghost use Rattle.std.specs.Prelude.{◌≡◌, ◌≢◌, ◌<◌, ◌≤◌, ◌+◌, ℕ, IfOk, IfErr, OnOk};
+ghost use Rattle.tq_host.specs.View.{TellsAll, last};
+ghost use Rattle.tq_host.specs.Within.{KeepsRest, Within};
+ghost use Rattle.tq_model.specs.declared.request.Request.{Request};
+ghost use Rattle.tq_model.specs.declared.request.Request.TheVariants as requests;
+ghost use Rattle.tq_model.specs.Faulty.{Condition, down_answer};
+ghost use Rattle.tq_device.specs.Content.{IsAnyStep};
+ghost use Rattle.tq_run.specs.Turns.{turn_between, IsBeforeOrAfter};
+ghost use Rattle.tq_run.specs.Standing.{IsIn, IsSound, next_of, IsHeld, HasTurned, IsTurning};
+
+use crate::devices::readiness;
+use crate::manager::boot;
+use crate::serving::serve;
+use crate::state::State;
+use crate::status::Stop;
+use std::alloc::Global;
+use tq_host::Host;
+use tq_model::{Answer, Request};
+
+// What a request is answered where there is no site.
+fn down_answer(request: &Request) -> Answer
+    ensures { result ≡ down_answer request.now }
+{
+    match request {
+        Request::Nothing => Answer::Done,
+        Request::Bad(column) => Answer::Syntax(*column),
+        Request::TooLong => Answer::TooLong,
+        Request::Boot | Request::Device(_) | Request::Space(_) | Request::Call(_) => {
+            Answer::SystemError
+        }
+    }
+}
+
+// A boot within a run: what was in memory is gone.
+fn reboot<H: Host>(alloc: Global, host: &mut H, state: &mut State) -> Result<Answer, Stop>
+    requires holds { H.tells.reads → IsHeld state.old ((H.view host.old).reads 0) }
+    ensures sound { OnOk result (IsSound state.new) }
+    ensures next { OnOk result (next_of state.new ≡ 0) }
+    ensures holds { OnOk result (H.tells.reads → IsHeld state.new ((H.view host.new).reads 0)) }
+    ensures answer { IfOk result (λ a. TellsAll H.tells → (H.view host.new).faults < last → (c : Condition) → IsIn state.old c (H.view host.old)
+        → a ≡ (turn_between (H.view host.old).faults (H.view host.new).faults (H.view host.old).reads c requests.Boot).answer) }
+    ensures state { OnOk result (TellsAll H.tells → (H.view host.new).faults < last → (c : Condition) → IsIn state.old c (H.view host.old)
+        → IsIn state.new (turn_between (H.view host.old).faults (H.view host.new).faults (H.view host.old).reads c requests.Boot).condition (H.view host.new)) }
+    ensures stop { TellsAll H.tells → (H.view host.new).faults < last → (c : Condition) → IsIn state.old c (H.view host.old)
+        → Within 0 IsAnyStep (IsBeforeOrAfter c (turn_between (H.view host.old).faults (H.view host.new).faults (H.view host.old).reads c requests.Boot)) (H.view host.old) (H.view host.new) }
+    ensures later { (H.view host.old).faults ≤ (H.view host.new).faults }
+    ensures rest { KeepsRest 0 (H.view host.old) (H.view host.new) }
+    ensures only { IfErr result (λ e. e ≡ Stop.Memory) }
+{
+    match boot(alloc, host) {
+        Ok(manager) => {
+            let answer = readiness(&manager);
+            *state = State::Up(manager);
+            Ok(answer)
+        }
+        Err(stop) => match stop {
+            Stop::Damaged => {
+                *state = State::Down;
+                Ok(Answer::Damaged(0))
+            }
+            Stop::Device => {
+                *state = State::Down;
+                Ok(Answer::SystemError)
+            }
+            _ => Err(Stop::Memory),
+        },
+    }
+}
+
+// Does what a line other than a boot asks for, where there is a site.
+fn serve_standing<H: Host>(
+    alloc: Global,
+    host: &mut H,
+    state: &mut State,
+    request: Request,
+) -> Result<Answer, Stop>
+    requires boot { request ≢ Request.Boot }
+    requires sound { IsSound state.old }
+    requires next { next_of state.old < 4294967295 }
+    requires holds { H.tells.reads → IsHeld state.old ((H.view host.old).reads 0) }
+    ensures sound { OnOk result (IsSound state.new) }
+    ensures next { OnOk result (next_of state.new ≤ next_of state.old + 1) }
+    ensures holds { OnOk result (H.tells.reads → IsHeld state.new ((H.view host.new).reads 0)) }
+    ensures turned { IfOk result (λ a. TellsAll H.tells → (H.view host.new).faults < last → HasTurned state.old state.new request a (H.view host.old) (H.view host.new)) }
+    ensures stop { TellsAll H.tells → (H.view host.new).faults < last → IsTurning state.old request (H.view host.old) (H.view host.new) }
+    ensures later { (H.view host.old).faults ≤ (H.view host.new).faults }
+    ensures rest { KeepsRest 0 (H.view host.old) (H.view host.new) }
+    ensures only { IfErr result (λ e. e ≡ Stop.Memory) }
+{
+    let served = match state {
+        State::Up(manager) => serve(alloc, host, manager, request),
+        State::Down => return Ok(down_answer(&request)),
+    };
+    match served {
+        Ok(answer) => Ok(answer),
+        Err(Stop::Device) => {
+            *state = State::Down;
+            Ok(Answer::SystemError)
+        }
+        Err(_) => Err(Stop::Memory),
+    }
+}
+
+/// Does what a line asks for, in whatever state the run is; the answer is that of the machine with
+/// faults. A device failure takes the site away until a boot.
+pub fn respond<H: Host>(
+    alloc: Global,
+    host: &mut H,
+    state: &mut State,
+    request: Request,
+) -> Result<Answer, Stop>
+    requires sound { IsSound state.old }
+    requires next { next_of state.old < 4294967295 }
+    requires holds { H.tells.reads → IsHeld state.old ((H.view host.old).reads 0) }
+    ensures sound { OnOk result (IsSound state.new) }
+    ensures next { OnOk result (next_of state.new ≤ next_of state.old + 1) }
+    ensures holds { OnOk result (H.tells.reads → IsHeld state.new ((H.view host.new).reads 0)) }
+    ensures turned { IfOk result (λ a. TellsAll H.tells → (H.view host.new).faults < last → HasTurned state.old state.new request a (H.view host.old) (H.view host.new)) }
+    ensures stop { TellsAll H.tells → (H.view host.new).faults < last → IsTurning state.old request (H.view host.old) (H.view host.new) }
+    ensures later { (H.view host.old).faults ≤ (H.view host.new).faults }
+    ensures rest { KeepsRest 0 (H.view host.old) (H.view host.new) }
+    ensures only { IfErr result (λ e. e ≡ Stop.Memory) }
+{
+    if let Request::Boot = request {
+        return reboot(alloc, host, state);
+    }
+    serve_standing(alloc, host, state, request)
+}
