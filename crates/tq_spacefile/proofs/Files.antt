@@ -10,7 +10,6 @@ use Rattle.tq_field.specs.GatedLog.{end_of, log_reading}
 use Rattle.tq_gate.specs.Reading.{Content, content}
 use Rattle.tq_gate.specs.Log.{IsOpen, IsLog, IsSameLog, free_in}
 use Rattle.tq_gate.specs.Layout.{log_length}
-use Rattle.tq_gate.specs.declared.log.GateLog.{GateLog}
 use Rattle.tq_gate.specs.declared.layout.Layout.{Layout}
 use Rattle.tq_gate.proofs.Elsewhere.{content_elsewhere}
 use Rattle.tq_gate.proofs.Readings.{end_of-push}
