@@ -152,10 +152,12 @@ pub fn run_within<H: Host>(alloc: Global, words: &[String], host: &mut H, limit:
 
 /// Runs a script of lines over one device file. The words are `run` and the device's path.
 ///
-/// Where the host tells what a clause speaks of: `Done` says that the script was read to its end,
-/// that the output is the text of the serial queue machine from the site that the device stood
-/// for, and that the device stands for the machine's site after the last line. Every other status
-/// comes exactly where its cause holds; want of memory alone is free.
+/// A device that fails in a line is answered TPESYSTEM, and so is every later line that asks for
+/// something, until a line `boot` brings the site back. Where the host tells what a clause speaks
+/// of: `Done` says that the script was read to its end, that the output is the text of the serial
+/// queue machine with faults from the site that the device stood for, and that the device stands
+/// for the machine's state after the last line. Every other status comes by the cause that its
+/// clause states; want of memory alone is free.
 pub fn run<H: Host>(alloc: Global, words: &[String], host: &mut H) -> Status
     ensures usage { (result ≡ Status.Usage) ↔ (device_word (map string_bytes words.now) ≡ None) }
     ensures nothing_else { result ≡ Status.Usage → host.new ≡ host.old }
@@ -164,7 +166,7 @@ pub fn run<H: Host>(alloc: Global, words: &[String], host: &mut H) -> Status
     ensures damaged { (d : ℕ) → result ≡ Status.Damaged d → IsDamaged H.tells d (H.view host.old) (H.view host.new) }
     ensures damaged_always { result ≢ Status.Usage → H.tells.reads → is_bootable (site_found 1 (H.view host.old).reads) ≡ false → (Rose (H.view host.old).faults (H.view host.new).faults → ⊥) → (result ≡ Status.Damaged 0) ⊎ (result ≡ Status.NoMemory) }
 
-    // The host failed, each way exactly where its count rose.
+    // The input or the output failed, exactly where its count rose; or a device, before anything was given.
     ensures read_fault { HasCauseOf (result ≡ Status.ReadFault) (H.view host.old).streams.input_faults (H.view host.new).streams.input_faults }
     ensures write_fault { HasCauseOf (result ≡ Status.WriteFault) (H.view host.old).streams.output_faults (H.view host.new).streams.output_faults }
     ensures device_fault { result ≡ Status.DeviceFault → Rose (H.view host.old).faults (H.view host.new).faults × ((H.view host.new).streams.output ≡ (H.view host.old).streams.output) }
@@ -178,8 +180,8 @@ pub fn run<H: Host>(alloc: Global, words: &[String], host: &mut H) -> Status
     // The whole run is the machine's.
     ensures done { result ≡ Status.Done → TellsAll H.tells → (H.view host.new).faults < last → (found : Site) → site_found 1 (H.view host.old).reads ≡ Some found → IsDone (H.view host.old) (H.view host.new) found }
 
-    // At every stop within the run, the device stands for the machine after some number of whole lines, as many as were
-    // answered or one more, and the output is a first part of the text of these.
+    // At every stop within the run, the device stands for the machine with faults after some number of whole lines, as many
+    // as were answered or one more, and the output is a first part of the text of these.
     ensures stop { TellsAll H.tells → (H.view host.new).faults < last → IsSettled 0 (H.view host.old) → (found : Site) → site_found 1 (H.view host.old).reads ≡ Some found → can_boot found ≡ true
         → (p : Picture) → (H.view host.new).left_since (H.view host.old).clock p → IsOfRun (H.view host.old) (H.view host.new) found p }
 

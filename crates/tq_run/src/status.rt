@@ -15,7 +15,7 @@ pub enum Status {
     ReadFault,
     /// The output failed.
     WriteFault,
-    /// A device failed.
+    /// A device failed before line 0 was answered.
     DeviceFault,
     /// 4,294,967,296 bytes were taken, and the script's end was not reached.
     TooMuchInput,
