@@ -3,6 +3,7 @@ ghost use Rattle.std.specs.Prelude.{◌<◌};
 mod faults;
 mod messages;
 mod serial;
+mod stops;
 
 use crate::running::run_within;
 use crate::{Status, run};
@@ -185,6 +186,8 @@ crdl 1 4
 boot
 lidl 0#
 crdl 0 00064  site=0007
+ boot 
+boot 1
 lidl 0";
 
 const LINES_OUTPUT: &[u8] = b"0 READY site=- epoch=- spaces=0 indoubt=0
@@ -226,10 +229,12 @@ const LINES_OUTPUT: &[u8] = b"0 READY site=- epoch=- spaces=0 indoubt=0
 36 SYNTAX column=1
 37 SYNTAX column=6
 38 NODEVICE
-39 SYNTAX column=1
+39 READY site=- epoch=- spaces=0 indoubt=0
 40 SYNTAX column=6
 41 OK clusters=64 free=60
-42 OK clusters=64 free=60 spaces=0
+42 READY site=7 epoch=2 spaces=0 indoubt=0
+43 SYNTAX column=6
+44 OK clusters=64 free=60 spaces=0
 ";
 
 #[test]

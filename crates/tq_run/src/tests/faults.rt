@@ -75,7 +75,7 @@ fn a_damaged_space_is_left_alone(rt: HostRuntime) -> Result<(), Fail> {
         ("qcreate S Q", "OK"),
         ("tpenqueue 1 S Q data=\"a\"", "OK"),
     ];
-    let image = Sheet::of(alloc, BLANK, &rows)?.check(&rt, alloc, b"")?;
+    let mut image = Sheet::of(alloc, BLANK, &rows)?.check(&rt, alloc, b"")?;
     let rows = [
         // the table: the other area, the entry, its extent
         (512, 0, true),
@@ -113,9 +113,32 @@ fn a_damaged_space_is_left_alone(rt: HostRuntime) -> Result<(), Fail> {
         (133148, 79, true),
     ];
     check_bytes(&rt, alloc, &image, &rows)?;
+    // its last cluster is not whole
     assert!(rt; image.len() == 196608);
-    assert!(rt; is_refused(&rt, alloc, &image[..196607])?);
+    image.truncate(196607);
+    assert!(rt; is_refused(&rt, alloc, &image)?);
     Ok(())
+}
+
+// How a run ends.
+#[derive(Clone, Copy, Debug, PartialEq, Eq)]
+enum End {
+    /// With this status, before the end of its script.
+    Stop(Status),
+    /// Done, and down.
+    Down,
+    /// Done, and up.
+    Up,
+}
+
+fn end_of(status: Status, host: &MemHost) -> End {
+    if status != Status::Done {
+        return End::Stop(status);
+    }
+    if host.output().ends_with(b" TPESYSTEM\n".as_slice()) {
+        return End::Down;
+    }
+    End::Up
 }
 
 // A run with this script over this image, in which this call fails.
@@ -124,42 +147,42 @@ fn failed(
     image: &[u8],
     script: &[u8],
     call: u64,
-) -> Result<(Status, MemHost), AllocError> {
+) -> Result<(End, MemHost), AllocError> {
     let mut host = outside(alloc, image, script, 4096)?;
     host.fail_at(call)?;
     let status = run(alloc, &run_words(alloc)?, &mut host);
-    Ok((status, host))
+    Ok((end_of(status, &host), host))
 }
 
 #[test]
-fn each_call_that_fails_has_its_status(rt: HostRuntime) -> Result<(), Fail> {
+fn each_call_that_fails_has_its_end(rt: HostRuntime) -> Result<(), Fail> {
     let alloc = rt.alloc();
     let rows = [
         // attach, sync and length, line 0, the script and its end
-        (0, Status::DeviceFault, BLANK),
-        (1, Status::DeviceFault, BLANK),
-        (2, Status::DeviceFault, BLANK),
-        (3, Status::WriteFault, BLANK),
-        (4, Status::ReadFault, BLANK),
-        (5, Status::ReadFault, BLANK),
+        (0, End::Stop(Status::DeviceFault), BLANK),
+        (1, End::Stop(Status::DeviceFault), BLANK),
+        (2, End::Stop(Status::DeviceFault), BLANK),
+        (3, End::Stop(Status::WriteFault), BLANK),
+        (4, End::Stop(Status::ReadFault), BLANK),
+        (5, End::Stop(Status::ReadFault), BLANK),
         // the length, sync, the pages
-        (6, Status::DeviceFault, BLANK),
-        (7, Status::DeviceFault, BLANK),
-        (8, Status::DeviceFault, BLANK),
-        (72, Status::DeviceFault, BLANK),
-        (135, Status::DeviceFault, BLANK),
+        (6, End::Down, BLANK),
+        (7, End::Down, BLANK),
+        (8, End::Down, BLANK),
+        (72, End::Down, BLANK),
+        (135, End::Down, BLANK),
         // sync, the length, sync, and the two answers
-        (136, Status::DeviceFault, BLANK),
-        (137, Status::DeviceFault, BLANK),
-        (138, Status::DeviceFault, MADE),
-        (139, Status::WriteFault, MADE),
-        (140, Status::WriteFault, MADE),
-        (141, Status::Done, MADE),
+        (136, End::Down, BLANK),
+        (137, End::Down, BLANK),
+        (138, End::Down, MADE),
+        (139, End::Stop(Status::WriteFault), MADE),
+        (140, End::Stop(Status::WriteFault), MADE),
+        (141, End::Up, MADE),
     ];
-    for (call, status, ready) in rows {
+    for (call, end, ready) in rows {
         let script = b"crdl 0 64\nlidl 0\n".as_slice();
         let (found, host) = failed(alloc, b"".as_slice(), script, call)?;
-        assert!(rt; found == status, "at {call}");
+        assert_eq!(rt; found, end, "at {call}");
         // nothing is given where line 0 fails
         assert!(rt; call > 3 || host.output().is_empty());
         Sheet::new(alloc, ready)?.check(&rt, alloc, host.image(0))?;
@@ -175,27 +198,27 @@ const NO_MESSAGE: &str = "TPEDIAGNOSTIC QMENOMSG";
 
 const MESSAGE: &str = "OK data=\"a\" urcode=0";
 
-// From one call to another: the status where it fails, and what a dequeue of the next run is answered.
-const CALLS: [(u64, u64, Status, &str); 16] = [
+// From one call to another: the end where it fails, and what a dequeue of the next run is answered.
+const CALLS: [(u64, u64, End, &str); 16] = [
     // attach, sync, length, three reads, the next epoch in four calls, line 0, the script, its end
-    (0, 10, Status::DeviceFault, NO_SPACE),
-    (10, 11, Status::WriteFault, NO_SPACE),
-    (11, 13, Status::ReadFault, NO_SPACE),
+    (0, 10, End::Stop(Status::DeviceFault), NO_SPACE),
+    (10, 11, End::Stop(Status::WriteFault), NO_SPACE),
+    (11, 13, End::Stop(Status::ReadFault), NO_SPACE),
     // the length in four calls, the first page in two, the table in four
-    (13, 22, Status::DeviceFault, NO_SPACE),
-    (22, 23, Status::DeviceFault, NO_QUEUE),
-    (23, 24, Status::WriteFault, NO_QUEUE),
+    (13, 22, End::Down, NO_SPACE),
+    (22, 23, End::Down, NO_QUEUE),
+    (23, 24, End::Stop(Status::WriteFault), NO_QUEUE),
     // each record in four calls, and its gate in two
-    (24, 29, Status::DeviceFault, NO_QUEUE),
-    (29, 30, Status::DeviceFault, NO_MESSAGE),
-    (30, 31, Status::WriteFault, NO_MESSAGE),
-    (31, 36, Status::DeviceFault, NO_MESSAGE),
-    (36, 37, Status::DeviceFault, MESSAGE),
-    (37, 38, Status::WriteFault, MESSAGE),
-    (38, 43, Status::DeviceFault, MESSAGE),
-    (43, 44, Status::DeviceFault, NO_MESSAGE),
-    (44, 45, Status::WriteFault, NO_MESSAGE),
-    (45, 46, Status::Done, NO_MESSAGE),
+    (24, 29, End::Down, NO_QUEUE),
+    (29, 30, End::Down, NO_MESSAGE),
+    (30, 31, End::Stop(Status::WriteFault), NO_MESSAGE),
+    (31, 36, End::Down, NO_MESSAGE),
+    (36, 37, End::Down, MESSAGE),
+    (37, 38, End::Stop(Status::WriteFault), MESSAGE),
+    (38, 43, End::Down, MESSAGE),
+    (43, 44, End::Down, NO_MESSAGE),
+    (44, 45, End::Stop(Status::WriteFault), NO_MESSAGE),
+    (45, 46, End::Up, NO_MESSAGE),
 ];
 
 const SPACE_LINES: &[u8] = b"qspacecreate S dev=0 pages=64 queues=4 trans=4 msgs=16 error=- memory=0
@@ -226,10 +249,10 @@ fn check_left(
 fn what_a_failed_line_leaves_is_read(rt: HostRuntime) -> Result<(), Fail> {
     let alloc = rt.alloc();
     let image = made(&rt, alloc, 64)?;
-    for (from, to, status, answer) in CALLS {
+    for (from, to, end, answer) in CALLS {
         for call in from..to {
             let (found, host) = failed(alloc, &image, SPACE_LINES, call)?;
-            assert!(rt; found == status, "at {call}");
+            assert_eq!(rt; found, end, "at {call}");
             check_left(&rt, alloc, host.image(0), answer)?;
         }
     }
@@ -241,9 +264,15 @@ fn a_run_goes_no_further_than_its_fuse(rt: HostRuntime) -> Result<(), Fail> {
     let alloc = rt.alloc();
     let words = run_words(alloc)?;
     let image = made(&rt, alloc, 64)?;
-    for (calls, _to, status, answer) in CALLS {
+    for (calls, _to, end, answer) in CALLS {
+        // what is down gives no answer
+        let wanted = match end {
+            End::Stop(status) => status,
+            End::Down => Status::WriteFault,
+            End::Up => Status::Done,
+        };
         let mut host = FuseHost::new(outside(alloc, &image, SPACE_LINES, 4096)?, calls);
-        assert!(rt; run(alloc, &words, &mut host) == status, "at {calls}");
+        assert!(rt; run(alloc, &words, &mut host) == wanted, "at {calls}");
         check_left(&rt, alloc, host.into_inner().image(0), answer)?;
     }
     Ok(())

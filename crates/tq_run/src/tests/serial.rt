@@ -9,14 +9,20 @@ use tq_script::{first_line, parse};
 
 // The machine over several runs. It has taken no more numbers than steps.
 #[derive(Drop)]
-struct Serial {
+pub struct Serial {
     machine: Machine,
     steps: u32,
     ghost taken: { machine.next ≤ steps },
 }
 
 impl Serial {
-    fn step(&mut self, request: &Request) -> Result<Answer, AllocError> {
+    // Over one device, which is blank.
+    pub fn new(alloc: Global) -> Result<Serial, AllocError> {
+        let machine = Machine::new(alloc, 1)?;
+        Ok(Serial { machine, steps: 0 })
+    }
+
+    pub fn step(&mut self, request: &Request) -> Result<Answer, AllocError> {
         if self.steps >= 1000000 {
             return Err(AllocError);
         }
@@ -25,7 +31,7 @@ impl Serial {
     }
 
     // The text of a run with this script.
-    fn run(&mut self, alloc: Global, script: &[u8]) -> Result<Vec<u8>, AllocError> {
+    pub fn run(&mut self, alloc: Global, script: &[u8]) -> Result<Vec<u8>, AllocError> {
         let mut text = tq_print::answer(alloc, 0, &self.step(&Request::Boot)?)?;
         let mut rest = script;
         let mut number = 1u64;
@@ -142,8 +148,7 @@ lidl 0
 fn runs_give_the_machine_s_text(rt: HostRuntime) -> Result<(), Fail> {
     let alloc = rt.alloc();
     let words = run_words(alloc)?;
-    let machine = Machine::new(alloc, 1)?;
-    let mut serial = Serial { machine, steps: 0 };
+    let mut serial = Serial::new(alloc)?;
     let mut image = Vec::new(alloc);
     for script in RUNS {
         let mut host = outside(alloc, &image, script, 5)?;

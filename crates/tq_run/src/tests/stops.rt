@@ -1,0 +1,236 @@
+use super::serial::Serial;
+use super::{BLANK, MADE, SPACE, Sheet, made, outside, run_words};
+use crate::{Status, run};
+use std::alloc::{AllocError, Global};
+use std::fmt::Write;
+use std::process::Abort;
+use std::test::Fail;
+use tq_host::{CallKind, FuseHost, MemHost};
+use tq_model::{Answer, Request};
+use tq_script::parse;
+
+const LINES: &[u8] = b"crdl 0 64 site=1
+qspacecreate S dev=0 pages=64 queues=4 trans=4 msgs=16 error=- memory=0
+qcreate S Q
+tpenqueue 1 S Q flags=TPQMSGID data=\"a\"
+";
+
+// What a dequeue is answered after none of the lines but the first, after two, after three and after all.
+const ANSWERS: [&str; 4] = [
+    "TPENOENT",
+    "TPEDIAGNOSTIC QMEBADQUEUE",
+    "TPEDIAGNOSTIC QMENOMSG",
+    "OK data=\"a\" urcode=0",
+];
+
+// Which of these answers a dequeue of a run over this image gets; their number where none.
+fn answer_over(alloc: Global, image: &[u8]) -> Result<usize, AllocError> {
+    let mut host = outside(alloc, image, b"tpdequeue 1 S Q".as_slice(), 64)?;
+    if run(alloc, &run_words(alloc)?, &mut host) != Status::Done {
+        return Ok(ANSWERS.len());
+    }
+    for (at, answer) in ANSWERS.iter().enumerate() {
+        if host
+            .output()
+            .ends_with(format!(in alloc; "\n1 {answer}\n")?.as_bytes())
+        {
+            return Ok(at);
+        }
+    }
+    Ok(ANSWERS.len())
+}
+
+// How many lines an output has.
+fn count_lines(output: &[u8]) -> usize {
+    let mut count = 0usize;
+    for byte in output {
+        if *byte == b'\n' {
+            count = count.wrapping_add(1);
+        }
+    }
+    count
+}
+
+// A run that stops after so many calls leaves what its answered lines did, or one line more.
+fn check_stop(rt: &impl Abort, alloc: Global, calls: u64) -> Result<usize, AllocError> {
+    let mut host = FuseHost::new(outside(alloc, b"".as_slice(), LINES, 4096)?, calls);
+    let _status = run(alloc, &run_words(alloc)?, &mut host);
+    let host = host.into_inner();
+    let lines = count_lines(host.output());
+    let at = answer_over(alloc, host.image(0))?;
+    assert!(rt; at < ANSWERS.len(), "at {calls}");
+    assert!(rt; lines.saturating_sub(2) <= at, "at {calls}");
+    assert!(rt; at <= lines.saturating_sub(1), "at {calls}");
+    Ok(lines)
+}
+
+#[test]
+fn a_stop_within_a_creation_leaves_a_device_or_none(rt: HostRuntime) -> Result<(), Fail> {
+    let alloc = rt.alloc();
+    for calls in [0u64, 3, 4, 6, 7, 8, 9, 72, 134, 135, 136, 137, 138] {
+        assert!(rt; check_stop(&rt, alloc, calls)? < 2, "at {calls}");
+    }
+    Ok(())
+}
+
+#[test]
+fn a_stop_leaves_whole_lines(rt: HostRuntime) -> Result<(), Fail> {
+    let alloc = rt.alloc();
+    for calls in 139..169u64 {
+        check_stop(&rt, alloc, calls)?;
+    }
+    assert!(rt; check_stop(&rt, alloc, 1000)? == 5);
+    Ok(())
+}
+
+#[test]
+fn a_boot_brings_the_site_back(rt: HostRuntime) -> Result<(), Fail> {
+    let alloc = rt.alloc();
+    let rows = [
+        // the sync of the message, and that of its gate
+        (12, "TPEDIAGNOSTIC QMENOMSG"),
+        (13, "OK data=\"a\" urcode=0"),
+    ];
+    for (nth, answer) in rows {
+        let rows = [
+            ("crdl 0 64", "OK clusters=64 free=60"),
+            SPACE,
+            ("qcreate S Q", "OK"),
+            ("tpenqueue 1 S Q data=\"a\"", "TPESYSTEM"),
+            ("tpenqueue 1 S Q data=\"b\"", "TPESYSTEM"),
+            ("tpdequeue 1 S Q", "TPESYSTEM"),
+            ("lidl 0", "TPESYSTEM"),
+            ("lidl 9", "SYNTAX column=6"),
+            ("# a comment", "OK"),
+            ("", "OK"),
+            ("boot", "READY site=1 epoch=2 spaces=1 indoubt=0"),
+            ("tpdequeue 1 S Q", answer),
+            (
+                "tpenqueue 1 S Q flags=TPQMSGID data=\"c\"",
+                "OK msgid=1.8.2.0",
+            ),
+            ("tpdequeue 1 S Q", "OK data=\"c\" urcode=0"),
+        ];
+        let sheet = Sheet::of(alloc, BLANK, &rows)?;
+        let mut host = outside(alloc, b"".as_slice(), sheet.script.as_bytes(), 4096)?;
+        host.fail_kind(CallKind::Sync, nth)?;
+        assert!(rt; run(alloc, &run_words(alloc)?, &mut host) == Status::Done);
+        assert_eq!(rt; str::from_utf8(host.output()), Ok(sheet.output.as_str()));
+    }
+    Ok(())
+}
+
+// The machine over one run in which devices fail: down from then on, until a boot.
+#[derive(Drop)]
+struct Faulty {
+    serial: Serial,
+    down: bool,
+}
+
+impl Faulty {
+    // One line; where a device fails in it, it may be done or not.
+    fn turn(&mut self, request: &Request, fault: Option<bool>) -> Result<Answer, AllocError> {
+        if let Some(done) = fault {
+            if done {
+                self.serial.step(request)?;
+            }
+            self.down = true;
+            return Ok(Answer::SystemError);
+        }
+        match request {
+            Request::Boot => self.down = false,
+            Request::Nothing | Request::Bad(_) | Request::TooLong => (),
+            Request::Device(_) | Request::Space(_) | Request::Call(_) => {
+                if self.down {
+                    return Ok(Answer::SystemError);
+                }
+            }
+        }
+        self.serial.step(request)
+    }
+}
+
+// Lines in which a device fails, and whether they are done.
+fn fault_in(faults: &[(u64, bool)], number: u64) -> Option<bool> {
+    for (line, done) in faults {
+        if *line == number {
+            return Some(*done);
+        }
+    }
+    None
+}
+
+const TURNS: [&str; 11] = [
+    SPACE.0,
+    "boot",
+    "qcreate S Q",
+    "tpenqueue 1 S Q flags=TPQMSGID data=\"a\"",
+    "# a comment",
+    "boot",
+    "tpenqueue 1 S Q flags=TPQMSGID data=\"b\"",
+    "tpdequeue 1 S Q flags=TPQMSGID",
+    "frob",
+    "boot",
+    "tpdequeue 1 S Q flags=TPQMSGID",
+];
+
+// The text of these lines over a device that was made, where devices fail in some.
+fn text_of(alloc: Global, faults: &[(u64, bool)]) -> Result<Vec<u8>, AllocError> {
+    let mut serial = Serial::new(alloc)?;
+    serial.run(alloc, b"crdl 0 64".as_slice())?;
+    let mut faulty = Faulty {
+        serial,
+        down: false,
+    };
+    let mut text = tq_print::answer(alloc, 0, &faulty.turn(&Request::Boot, None)?)?;
+    let mut number = 1u64;
+    for line in TURNS {
+        let request = parse(alloc, line.as_bytes())?;
+        let answer = faulty.turn(&request, fault_in(faults, number))?;
+        text.extend_from_slice(&tq_print::answer(alloc, number, &answer)?)?;
+        number = number.wrapping_add(1);
+    }
+    Ok(text)
+}
+
+// The text of a run over a device that was made, in which these calls fail.
+fn text_with(
+    rt: &impl Abort,
+    alloc: Global,
+    image: &[u8],
+    calls: &[u64],
+) -> Result<(Status, Vec<u8>), AllocError> {
+    let mut script = String::new(alloc);
+    for line in TURNS {
+        write!(script, "{line}\n")?;
+    }
+    let mut host = outside(alloc, image, script.as_bytes(), 4096)?;
+    for call in calls {
+        host.fail_at(*call)?;
+    }
+    let status = run(alloc, &run_words(alloc)?, &mut host);
+    Ok((status, Vec::from_slice(alloc, host.output())?))
+}
+
+#[test]
+fn explore(rt: HostRuntime) -> Result<(), Fail> {
+    let alloc = rt.alloc();
+    let image = made(&rt, alloc, 64)?;
+    let mut texts = Vec::new(alloc);
+    for line in 1..=11u64 {
+        texts.push((line, text_of(alloc, &[(line, false)])?, text_of(alloc, &[(line, true)])?))?;
+    }
+    let clean = text_of(alloc, &[])?;
+    let mut all = String::new(alloc);
+    for call in 0..400u64 {
+        let (status, text) = text_with(&rt, alloc, &image, &[call])?;
+        if text == clean { write!(all, "{call} clean {status:?}\n")?; continue; }
+        if status != Status::Done { write!(all, "{call} {status:?}\n")?; continue; }
+        for (line, a, b) in &texts {
+            if text == *a { write!(all, "{call} {line} not\n")?; }
+            if text == *b { write!(all, "{call} {line} done\n")?; }
+        }
+    }
+    assert!(rt; false, "{all}");
+    Ok(())
+}
