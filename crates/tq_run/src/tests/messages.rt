@@ -73,6 +73,63 @@ fn messages_stay_in_their_order_over_runs(rt: HostRuntime) -> Result<(), Fail> {
     Ok(())
 }
 
+#[test]
+fn messages_outlast_boots(rt: HostRuntime) -> Result<(), Fail> {
+    let alloc = rt.alloc();
+    let rows = [
+        ("boot", BLANK),
+        ("boot", BLANK),
+        ("crdl 0 64 site=3", "OK clusters=64 free=60"),
+        SPACE,
+        ("qcreate S Q", "OK"),
+        (
+            "tpenqueue 1 S Q flags=TPQMSGID data=\"a\"",
+            "OK msgid=3.8.1.0",
+        ),
+        (
+            "tpenqueue 1 S Q flags=TPQMSGID data=\"b\"",
+            "OK msgid=3.8.1.1",
+        ),
+        ("boot", "READY site=3 epoch=2 spaces=1 indoubt=0"),
+        (
+            "tpdequeue 1 S Q flags=TPQMSGID",
+            "OK data=\"a\" urcode=0 msgid=3.8.1.0",
+        ),
+        (
+            "tpenqueue 1 S Q flags=TPQMSGID data=\"c\"",
+            "OK msgid=3.8.2.0",
+        ),
+        ("boot", "READY site=3 epoch=3 spaces=1 indoubt=0"),
+        ("boot", "READY site=3 epoch=4 spaces=1 indoubt=0"),
+        ("boot", "READY site=3 epoch=5 spaces=1 indoubt=0"),
+        (
+            "lidl 0",
+            "OK clusters=64 free=58 spaces=1\n  S number=8 pages=64 extents=4+2",
+        ),
+        ("qcreate S Q", "TAKEN"),
+        (
+            "tpdequeue 1 S Q flags=TPQMSGID",
+            "OK data=\"b\" urcode=0 msgid=3.8.1.1",
+        ),
+        (
+            "tpdequeue 1 S Q flags=TPQMSGID",
+            "OK data=\"c\" urcode=0 msgid=3.8.2.0",
+        ),
+        ("tpdequeue 1 S Q", "TPEDIAGNOSTIC QMENOMSG"),
+        (
+            "tpenqueue 1 S Q flags=TPQMSGID data=\"d\"",
+            "OK msgid=3.8.5.0",
+        ),
+    ];
+    let image = Sheet::of(alloc, BLANK, &rows)?.check(&rt, alloc, b"")?;
+    let rows = [(
+        "tpdequeue 1 S Q flags=TPQMSGID",
+        "OK data=\"d\" urcode=0 msgid=3.8.5.0",
+    )];
+    Sheet::of(alloc, "READY site=3 epoch=6 spaces=1 indoubt=0", &rows)?.check(&rt, alloc, &image)?;
+    Ok(())
+}
+
 // A body of that many letters, in quotes.
 fn letters(alloc: Global, count: u32) -> Result<String, AllocError> {
     let mut body = String::from_str(alloc, "\"")?;

@@ -114,6 +114,7 @@ qcreate S Q
 tpenqueue 4 S 123456789012345 data=\"\\c3\\a9\"
 tpenqueue 4 S 123456789012345 flags=TPQMSGID data=\"\\7f\"
 tpenqueue 4 S 123456789012345 flags=TPQMSGID data=\"one more\"
+boot
 tpdequeue 5 S Q flags=TPQMSGID
 tpdequeue 5 S Q flags=TPQMSGID
 tpenqueue 4 S Q flags=TPQMSGID data=\"kept\"

@@ -120,6 +120,29 @@ fn a_boot_brings_the_site_back(rt: HostRuntime) -> Result<(), Fail> {
     Ok(())
 }
 
+#[test]
+fn no_boot_raises_the_last_epoch(rt: HostRuntime) -> Result<(), Fail> {
+    let alloc = rt.alloc();
+    let mut image = made(&rt, alloc, 64)?;
+    assert!(rt; image.len() == 131072);
+    image[82948] = 255;
+    image[82949] = 255;
+    image[82950] = 255;
+    image[82951] = 254;
+    let rows = [
+        ("lidl 0", "OK clusters=64 free=60 spaces=0"),
+        ("boot", "DAMAGED 0"),
+        ("lidl 0", "TPESYSTEM"),
+        ("# a comment", "OK"),
+        ("crdl 0 64", "TPESYSTEM"),
+        ("boot", "DAMAGED 0"),
+        ("tpdequeue 1 S Q", "TPESYSTEM"),
+    ];
+    let ready = "READY site=1 epoch=4294967295 spaces=0 indoubt=0";
+    Sheet::of(alloc, ready, &rows)?.check(&rt, alloc, &image)?;
+    Ok(())
+}
+
 // The machine over one run in which devices fail: down from then on, until a boot.
 #[derive(Drop)]
 struct Faulty {
@@ -161,7 +184,7 @@ fn fault_in(faults: &[(u64, bool)], number: u64) -> Option<bool> {
 }
 
 const TURNS: [&str; 11] = [
-    SPACE.0,
+    "qspacecreate S dev=0 pages=64 queues=4 trans=4 msgs=16 error=- memory=0",
     "boot",
     "qcreate S Q",
     "tpenqueue 1 S Q flags=TPQMSGID data=\"a\"",
@@ -193,13 +216,8 @@ fn text_of(alloc: Global, faults: &[(u64, bool)]) -> Result<Vec<u8>, AllocError>
     Ok(text)
 }
 
-// The text of a run over a device that was made, in which these calls fail.
-fn text_with(
-    rt: &impl Abort,
-    alloc: Global,
-    image: &[u8],
-    calls: &[u64],
-) -> Result<(Status, Vec<u8>), AllocError> {
+// A run with these lines over such a device, in which these calls fail.
+fn run_with(alloc: Global, image: &[u8], calls: &[u64]) -> Result<(Status, Vec<u8>), AllocError> {
     let mut script = String::new(alloc);
     for line in TURNS {
         write!(script, "{line}\n")?;
@@ -212,25 +230,100 @@ fn text_with(
     Ok((status, Vec::from_slice(alloc, host.output())?))
 }
 
-#[test]
-fn explore(rt: HostRuntime) -> Result<(), Fail> {
-    let alloc = rt.alloc();
-    let image = made(&rt, alloc, 64)?;
-    let mut texts = Vec::new(alloc);
-    for line in 1..=11u64 {
-        texts.push((line, text_of(alloc, &[(line, false)])?, text_of(alloc, &[(line, true)])?))?;
+// Where a device fails in a line: the text if that is not done, and if it is.
+#[derive(Drop)]
+struct Texts {
+    undone: Vec<u8>,
+    done: Vec<u8>,
+}
+
+// The texts for each line.
+fn all_texts(alloc: Global) -> Result<Vec<Texts>, AllocError> {
+    let mut all = Vec::new(alloc);
+    let mut number = 1u64;
+    for _line in TURNS {
+        let undone = text_of(alloc, &[(number, false)])?;
+        let done = text_of(alloc, &[(number, true)])?;
+        all.push(Texts { undone, done })?;
+        number = number.wrapping_add(1);
     }
-    let clean = text_of(alloc, &[])?;
-    let mut all = String::new(alloc);
-    for call in 0..400u64 {
-        let (status, text) = text_with(&rt, alloc, &image, &[call])?;
-        if text == clean { write!(all, "{call} clean {status:?}\n")?; continue; }
-        if status != Status::Done { write!(all, "{call} {status:?}\n")?; continue; }
-        for (line, a, b) in &texts {
-            if text == *a { write!(all, "{call} {line} not\n")?; }
-            if text == *b { write!(all, "{call} {line} done\n")?; }
+    Ok(all)
+}
+
+// How many lines stand before the one that failed; all where none did.
+fn lines_before(all: &[Texts], text: &[u8]) -> usize {
+    for (at, texts) in all.iter().enumerate() {
+        if text == texts.undone.as_slice() || text == texts.done.as_slice() {
+            return at;
         }
     }
-    assert!(rt; false, "{all}");
+    all.len()
+}
+
+// Each of these calls fails in one run, and a later one never in an earlier line.
+fn check_turns(
+    rt: &impl Abort,
+    alloc: Global,
+    rows: &[(u64, u64, u64)],
+) -> Result<usize, AllocError> {
+    let image = made(rt, alloc, 64)?;
+    let all = all_texts(alloc)?;
+    let whole = text_of(alloc, &[])?;
+    let mut last = 0usize;
+    for (from, count, apart) in rows {
+        for at in 0..*count {
+            let call = from.wrapping_add(at.wrapping_mul(*apart));
+            let (status, text) = run_with(alloc, &image, &[call])?;
+            if status == Status::WriteFault {
+                assert!(rt; whole.starts_with(&text), "at {call}");
+            } else {
+                let before = lines_before(&all, &text);
+                assert!(rt; status == Status::Done, "at {call}");
+                assert!(rt; last <= before && before < all.len(), "at {call}");
+                last = before;
+            }
+        }
+    }
+    Ok(last)
+}
+
+#[test]
+fn a_boot_finds_what_a_failed_line_left(rt: HostRuntime) -> Result<(), Fail> {
+    let alloc = rt.alloc();
+    let rows = [(13, 20, 1), (33, 6, 10), (92, 26, 1)];
+    assert!(rt; check_turns(&rt, alloc, &rows)? == 5);
+    Ok(())
+}
+
+#[test]
+fn a_boot_finds_what_a_failed_boot_left(rt: HostRuntime) -> Result<(), Fail> {
+    let alloc = rt.alloc();
+    let rows = [(118, 6, 12), (185, 34, 1), (219, 8, 8), (280, 10, 1)];
+    assert!(rt; check_turns(&rt, alloc, &rows)? == 10);
+    Ok(())
+}
+
+// The text of a run in which a call of the enqueue and one of the boot behind it fail.
+fn is_allowed(alloc: Global, text: &[u8]) -> Result<bool, AllocError> {
+    for first in [false, true] {
+        for second in [false, true] {
+            if text == text_of(alloc, &[(4, first), (6, second)])?.as_slice() {
+                return Ok(true);
+            }
+        }
+    }
+    Ok(false)
+}
+
+#[test]
+fn a_boot_fails_where_a_line_failed(rt: HostRuntime) -> Result<(), Fail> {
+    let alloc = rt.alloc();
+    let image = made(&rt, alloc, 64)?;
+    // a call of the enqueue, and the first and the last ones of the boot
+    for (first, second) in [(111, 114), (111, 115), (111, 182), (111, 186)] {
+        let (status, text) = run_with(alloc, &image, &[first, second])?;
+        assert!(rt; status == Status::Done, "at {second}");
+        assert!(rt; is_allowed(alloc, &text)?, "at {second}");
+    }
     Ok(())
 }
