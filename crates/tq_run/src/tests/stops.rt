@@ -87,9 +87,9 @@ fn a_stop_leaves_whole_lines(rt: HostRuntime) -> Result<(), Fail> {
 fn a_boot_brings_the_site_back(rt: HostRuntime) -> Result<(), Fail> {
     let alloc = rt.alloc();
     let rows = [
-        // the sync of the message, and that of its gate
+        // the first sync within the enqueue, and the last one
         (12, "TPEDIAGNOSTIC QMENOMSG"),
-        (13, "OK data=\"a\" urcode=0"),
+        (14, "OK data=\"a\" urcode=0"),
     ];
     for (nth, answer) in rows {
         let rows = [
@@ -298,12 +298,12 @@ fn a_boot_finds_what_a_failed_line_left(rt: HostRuntime) -> Result<(), Fail> {
 #[test]
 fn a_boot_finds_what_a_failed_boot_left(rt: HostRuntime) -> Result<(), Fail> {
     let alloc = rt.alloc();
-    let rows = [(118, 6, 12), (185, 34, 1), (219, 8, 8), (280, 10, 1)];
+    let rows = [(118, 6, 11), (181, 26, 1), (207, 6, 11), (269, 13, 1)];
     assert!(rt; check_turns(&rt, alloc, &rows)? == 10);
     Ok(())
 }
 
-// The text of a run in which a call of the enqueue and one of the boot behind it fail.
+// Whether a text is one of a run in which devices fail in the first enqueue and in the boot behind it.
 fn is_allowed(alloc: Global, text: &[u8]) -> Result<bool, AllocError> {
     for first in [false, true] {
         for second in [false, true] {
@@ -319,11 +319,14 @@ fn is_allowed(alloc: Global, text: &[u8]) -> Result<bool, AllocError> {
 fn a_boot_fails_where_a_line_failed(rt: HostRuntime) -> Result<(), Fail> {
     let alloc = rt.alloc();
     let image = made(&rt, alloc, 64)?;
-    // a call of the enqueue, and the first and the last ones of the boot
-    for (first, second) in [(111, 114), (111, 115), (111, 182), (111, 186)] {
-        let (status, text) = run_with(alloc, &image, &[first, second])?;
-        assert!(rt; status == Status::Done, "at {second}");
-        assert!(rt; is_allowed(alloc, &text)?, "at {second}");
+    // the first and the last call of the enqueue, and calls of the boot
+    for first in [105u64, 110] {
+        for behind in [3u64, 4, 8, 40, 72, 73, 74, 75] {
+            let second = first.wrapping_add(behind);
+            let (status, text) = run_with(alloc, &image, &[first, second])?;
+            assert!(rt; status == Status::Done, "at {second}");
+            assert!(rt; is_allowed(alloc, &text)?, "at {second}");
+        }
     }
     Ok(())
 }
