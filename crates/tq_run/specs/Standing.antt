@@ -56,4 +56,3 @@ pub record HasReached (o : Origin) (found : Site) (done : List Request) (state :
   pub answered : IsAnswered o now found done condition
   pub is : IsIn state condition now
   pub some : 1 ≤ length done
-
