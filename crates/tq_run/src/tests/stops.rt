@@ -87,9 +87,9 @@ fn a_stop_leaves_whole_lines(rt: HostRuntime) -> Result<(), Fail> {
 fn a_boot_brings_the_site_back(rt: HostRuntime) -> Result<(), Fail> {
     let alloc = rt.alloc();
     let rows = [
-        // the first sync within the enqueue, and the last one
-        (12, "TPEDIAGNOSTIC QMENOMSG"),
-        (14, "OK data=\"a\" urcode=0"),
+        // the sync of the record of the enqueue, and that of its gate
+        (11, "TPEDIAGNOSTIC QMENOMSG"),
+        (12, "OK data=\"a\" urcode=0"),
     ];
     for (nth, answer) in rows {
         let rows = [
