@@ -7,28 +7,25 @@ use Rattle.tq_host.specs.Within.{Within}
 use Rattle.tq_host.proofs.Within.{wider, weaker, in_a_row}
 use Rattle.tq_model.specs.Site.{Site, durable}
 use Rattle.tq_model.specs.Step.{booted, with_next_epoch, can_boot}
-use Rattle.tq_model.specs.Reading.{reading, site_found, combined}
+use Rattle.tq_model.specs.Reading.{site_found}
 use Rattle.tq_model.specs.Parts.{IsPart}
 use Rattle.tq_model.proofs.Images.{found_durable}
 use Rattle.tq_model.proofs.RecordMoves.{newer_after_boot}
 use Rattle.tq_device.specs.declared.content.DeviceContent.{DeviceContent}
 use Rattle.tq_device.specs.Content.{Stands, IsSameImage, IsAny, IsAnyStep, IsSameButJournal, IsOldOrRaised, raised, part_of}
 use Rattle.tq_device.specs.declared.content.NamedSpace.{NamedSpace}
-use Rattle.tq_device.proofs.Making.{any_steps}
 use Rattle.tq_spacefile.specs.declared.file.SpaceFile.{SpaceFile}
 use Rattle.tq_spacefile.specs.File.{HasSpace, held_in, logged_in}
 use Rattle.tq_spacefile.proofs.Files.{file_kept, file_later, file_epochs}
 use Rattle.tq_run.specs.declared.manager.Manager.{Manager}
 use Rattle.tq_run.specs.Manager.{site_at, placed_in, IsBooted, IsOn, IsFileAt, IsFileOn, IsLoaded, loaded_site}
 use Rattle.tq_run.specs.Stops.{ImageStands, IsFoundOrBooted, IsOldOrBooted, HasNoNewImage}
+use Rattle.tq_run.proofs.Attending.{same_found}
 use Rattle.tq_run.proofs.FoundLemmas.{durable_at, image_at, image_bare, loaded_found, part_of_stands}
+use Rattle.tq_run.proofs.Stopping.{any_steps}
 
 some_same : (a b : Site) → Some a ≡ Some b → a ≡ b
 some_same a b e = cc
-
--- the site that is found is that of device 0's image
-pub same_found : (images other : ℕ → List ℕ) → images 0 ≡ other 0 → site_found 1 images ≡ site_found 1 other
-same_found images other same = ap (λ (image : List ℕ). combined (reading 0 image ∷ [])) same
 
 -- an image that is what is read
 pub read_stands : (images : ℕ → List ℕ) (s : Site) (image : List ℕ) → site_found 1 images ≡ Some s → image ≡ images 0 → ImageStands s image

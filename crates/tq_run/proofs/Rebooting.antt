@@ -1,7 +1,6 @@
 -- What a boot within a run leaves, and what it is answered.
 use Rattle.std.proofs.Common.{◌≡◌, ◌≢◌, ◌⊎◌, inl, inr, ⊎_elim, ◌<◌, ℕ, zero, suc, List, [], ◌∷◌, ◌++◌, Option, Some, Bool, true, false, cond, refl, sym, ◌∙◌, ap, subst, arith}
 use Rattle.std.specs.Prelude.{Any, nat_lt, filter, map, option_map}
-use Rattle.std.proofs.lemmas.Bool.Decides.{nat_tests}
 use Rattle.tq_host.specs.View.{Told, TellsAll, View, IsLawful, last}
 use Rattle.tq_host.specs.Within.{Within}
 use Rattle.tq_host.proofs.Within.{weaker}
@@ -13,7 +12,6 @@ use Rattle.tq_model.specs.Reading.{site_found}
 use Rattle.tq_model.specs.Faulty.{Condition, Up, Down, Turn, boot_turn, reboot_turn, StandFor, turn_at}
 use Rattle.tq_model.proofs.Images.{found_durable}
 use Rattle.tq_device.specs.Content.{IsAnyStep}
-use Rattle.tq_device.proofs.Making.{any_steps}
 use Rattle.tq_run.specs.declared.manager.Manager.{Manager}
 use Rattle.tq_run.specs.declared.state.State.{State}
 use Rattle.tq_run.specs.declared.state.State.TheVariants as states
@@ -24,8 +22,9 @@ use Rattle.tq_run.specs.Manager.{site_of, is_bootable, IsBooted}
 use Rattle.tq_run.specs.Stops.{ImageStands, IsOldOrBooted, AreOn}
 use Rattle.tq_run.specs.Turns.{ImageStandsFor, turn_between, IsBeforeOrAfter}
 use Rattle.tq_run.specs.Standing.{IsIn}
-use Rattle.tq_run.proofs.FoundLemmas.{image_stands}
 use Rattle.tq_run.proofs.Booting.{read_stands}
+use Rattle.tq_run.proofs.States.{calm, risen, twice, images_in}
+use Rattle.tq_run.proofs.Stopping.{any_steps}
 
 -- Some element of a list
 
@@ -77,12 +76,6 @@ stand_in (Down sites) image any = any
 stand_for : (c : Condition) (image : List ℕ) → Any (λ s. ImageStands s image) (sites_in c) → ImageStandsFor c image
 stand_for (Up s) image any = ⊎_elim (λ stands. stands) (λ none. absurd (any_none (λ s. ImageStands s image) none)) (any_split (λ s. ImageStands s image) s [] any)
 stand_for (Down sites) image any = any
-
-image_in : (state : State) (c : Condition) (v : View) → IsIn state c v → (image : List ℕ) → v.may_leave 0 image → ImageStandsFor c image
-image_in (states.Up m) (Up s) v is image may = subst (λ (x : Site). ImageStands x image) is.site (image_stands m image (is.on image may))
-image_in (states.Up m) (Down sites) v is image may = absurd is
-image_in states.Down (Up s) v is image may = absurd is
-image_in states.Down (Down sites) v is image may = is image may
 
 -- Boots of one site
 
@@ -150,11 +143,11 @@ rose_image (Up s) images found o image is stands has =
     ⊎_elim
     (λ old.
     let on : ImageStands s image = stand_for (Up s) image old in
-    any_first (StandFor 1 (λ d. image)) before (after ∷ []) (on ∙ ap (λ (x : Site). Some x) (sym (found_durable (λ d. image) (durable s) on))))
+    any_first (StandFor 1 (λ d. image)) before (after ∷ []) (twice s image on))
     (λ (raisable, new).
     let made : booted found ≡ (boot s).site = same_booted images found s is stands ∙ sym (site_up s (sym (same_raisable images found s is stands) ∙ raisable)) in
     let on : ImageStands (boot s).site image = subst (λ (x : Site). ImageStands x image) made new in
-    any_later (StandFor 1 (λ d. image)) before (after ∷ []) (any_first (StandFor 1 (λ d. image)) after [] (on ∙ ap (λ (x : Site). Some x) (sym (found_durable (λ d. image) after on))))) has
+    any_later (StandFor 1 (λ d. image)) before (after ∷ []) (any_first (StandFor 1 (λ d. image)) after [] (twice (boot s).site image on))) has
 rose_image (Down sites) images found o image is stands has =
     ⊎_elim
     (λ old. any_ahead (StandFor 1 (λ d. image)) sites (map booted (filter can_boot sites)) old)
@@ -166,12 +159,6 @@ rose_image (Down sites) images found o image is stands has =
 rose_in : (c : Condition) (o : Option Site) (v : View) → ((image : List ℕ) → v.may_leave 0 image → ImageStandsFor (turn_at true o c Boot).condition image) → IsIn states.Down (turn_at true o c Boot).condition v
 rose_in (Up s) o v are = are
 rose_in (Down sites) o v are = are
-
-not_below : (before now : ℕ) → now ≡ before → nat_lt before now ≡ false
-not_below before now same = grind (arith, nat_tests)
-
-below_now : (before now : ℕ) → Rises before now → now < last → nat_lt before now ≡ true
-below_now before now rises lt = grind (arith, nat_tests, rises.rose)
 
 -- A boot
 
@@ -186,7 +173,7 @@ other_stop stops.Output old new not three counts = absurd (not (three (λ e. cc)
 
 module _ {tells : Told} (t : TellsAll tells) (old new : View) (lawful : IsLawful tells old) (state : State) (c : Condition) (is : IsIn state c old) where
   read_is : ImageStandsFor c (old.reads 0)
-  read_is = image_in state c old is (old.reads 0) (lawful.reads_an_image t.stops 0)
+  read_is = images_in state c old (old.reads 0) is (lawful.reads_an_image t.stops 0)
 
   abbrev the_turn : Turn
   the_turn = turn_between old.faults new.faults old.reads c Boot
@@ -204,7 +191,7 @@ module _ {tells : Told} (t : TellsAll tells) (old new : View) (lawful : IsLawful
 
   module _ (quiet : IsQuiet old new) where
     turn_is : the_turn ≡ boot_turn found
-    turn_is = quiet_turn c old.reads found (nat_lt old.faults new.faults) (not_below old.faults new.faults quiet.device) is_found read_is
+    turn_is = quiet_turn c old.reads found (nat_lt old.faults new.faults) (calm old.faults new.faults quiet.device) is_found read_is
 
     -- the site is in memory
     module _ (m : Manager) (boot : IsBooted m old new) where
@@ -234,7 +221,7 @@ module _ {tells : Told} (t : TellsAll tells) (old new : View) (lawful : IsLawful
 
   module _ (boots : (sites : List Site) → ((image : List ℕ) → old.may_leave 0 image → Any (λ s. ImageStands s image) sites) → (s : Site) → site_found 1 old.reads ≡ Some s → Within 0 IsAnyStep (IsOldOrBooted sites s) old new) where
     within : Within 0 IsAnyStep (IsOldOrBooted (sites_in c) found) old new
-    within = boots (sites_in c) (λ image may. stand_in c image (image_in state c old is image may)) found is_found
+    within = boots (sites_in c) (λ image may. stand_in c image (images_in state c old image is may)) found is_found
 
     pub quiet_stop : IsQuiet old new → Within 0 IsAnyStep (IsBeforeOrAfter c the_turn) old new
     quiet_stop quiet =
@@ -245,7 +232,7 @@ module _ {tells : Told} (t : TellsAll tells) (old new : View) (lawful : IsLawful
     -- the device failed
     module _ (rises : Rises old.faults new.faults) (lt : new.faults < last) where
       has_failed : the_turn ≡ turn_at true (site_found 1 old.reads) c Boot
-      has_failed = ap (λ (b : Bool). turn_at b (site_found 1 old.reads) c Boot) (below_now old.faults new.faults rises lt)
+      has_failed = ap (λ (b : Bool). turn_at b (site_found 1 old.reads) c Boot) (risen old.faults new.faults rises lt)
 
       failed_image : (image : List ℕ) → IsOldOrBooted (sites_in c) found image → ImageStandsFor (turn_at true (site_found 1 old.reads) c Boot).condition image
       failed_image image has = rose_image c old.reads found (site_found 1 old.reads) image is_found read_is has

@@ -3,8 +3,9 @@ use Rattle.std.proofs.lemmas.Result.{IfOk-weaker}
 use Rattle.tq_device.specs.declared.content.Found.{Found}
 use Rattle.tq_device.specs.Content.{IsFoundOn, IsFoundWithin, Stands}
 use Rattle.tq_run.proofs.FoundLemmas.{booted_blank, damaged_device, none_not_bootable}
+use Rattle.tq_run.proofs.Attending.{same_found}
 use Rattle.tq_run.specs.Manager.{is_bootable}
-use Rattle.tq_run.proofs.Booting.{still_old, looking_booting, booted_from, same_found}
+use Rattle.tq_run.proofs.Booting.{still_old, looking_booting, booted_from}
 use Rattle.tq_run.proofs.manager.boot.Goals as goal
 
 pub returns-in_err-look-clause-stop : goal.returns-in_err-look-clause-stop

@@ -7,7 +7,7 @@ use Rattle.tq_device.specs.Content.{Stands, IsAnyStep, IsSameButJournal, raised}
 use Rattle.tq_run.specs.Manager.{site_with, IsOn, IsContentOn, loaded_site}
 use Rattle.tq_run.specs.Stops.{IsFoundOrBooted}
 use Rattle.tq_run.proofs.CountLemmas.{of_ok}
-use Rattle.tq_device.proofs.Making.{any_steps}
+use Rattle.tq_run.proofs.Stopping.{any_steps}
 use Rattle.tq_run.proofs.Booting.{raising, raised_on, booted_is, loaded_stands}
 use Rattle.tq_run.proofs.manager.raise.Goals as goal
 
