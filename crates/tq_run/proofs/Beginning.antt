@@ -1,22 +1,19 @@
 -- Line 0: a device is attached, and then there is a boot of what it stands for.
-use Rattle.std.proofs.Common.{◌≡◌, ◌⊎◌, inl, inr, ⊎_elim, ◌<◌, ◌≤◌, ℕ, zero, suc, ◌+◌, List, [], ◌∷◌, ◌++◌, Option, Some, None, Bool, true, false, cond, Result, refl, sym, ◌∙◌, ap, subst, arith, length, append_assoc}
+use Rattle.std.proofs.Common.{◌≡◌, inl, inr, ⊎_elim, ◌<◌, ℕ, zero, suc, List, [], ◌∷◌, ◌++◌, Option, Some, None, Bool, true, false, cond, Result, refl, sym, ◌∙◌, ap, subst, arith, length, append_assoc}
 use Rattle.std.specs.Prelude.{nat_lt, replicate, All, Any}
 use Rattle.std.proofs.lemmas.List.{append-nil, append_cancel_left}
 use Rattle.std.specs.List.{slice_index_or}
-use Rattle.tq_host.specs.View.{View, Picture, Stamp, Streams, IsSettled}
+use Rattle.tq_host.specs.View.{View, Stamp, Streams, IsSettled}
 use Rattle.tq_host.specs.Calls.{IsDeviceCall, IsStill, IsGiven, IsGiving}
 use Rattle.tq_host.specs.declared.host.Failed.{Failed}
 use Rattle.tq_host.specs.Within.{Came, Within, Ran}
 use Rattle.tq_host.proofs.Within.{weaker, in_a_row}
 use Rattle.tq_model.specs.declared.request.Request.TheVariants.{Boot}
 use Rattle.tq_model.specs.Site.{Site, durable}
-use Rattle.tq_model.specs.Step.{Outcome, step, boot, booted, can_boot, ready}
+use Rattle.tq_model.specs.Step.{step, booted, can_boot, ready}
 use Rattle.tq_model.specs.Text.{line_text}
-use Rattle.tq_model.specs.declared.answer.Answer.{Answer}
-use Rattle.tq_model.specs.declared.answer.Answer.TheVariants as answers
 use Rattle.tq_model.specs.Reading.{site_found}
-use Rattle.tq_model.specs.Faulty.{Condition, Up, Down, Turn, failing_turn, boot_turn, rose_at, turn_at}
-use Rattle.tq_model.proofs.Images.{found_durable}
+use Rattle.tq_model.specs.Faulty.{Up, Turn, failing_turn, boot_turn, rose_at, turn_at}
 use Rattle.tq_device.specs.Content.{IsAnyStep}
 use Rattle.tq_run.specs.declared.manager.Manager.{Manager}
 use Rattle.tq_run.specs.declared.state.State.TheVariants as states
@@ -28,27 +25,10 @@ use Rattle.tq_run.specs.Turns.{ImageStandsFor, IsBeforeOrAfter, IsOfLines, origi
 use Rattle.tq_run.specs.Standing.{IsIn, HasReached}
 use Rattle.tq_run.proofs.Attending.{same_found}
 use Rattle.tq_run.proofs.Booting.{read_stands}
+use Rattle.tq_run.proofs.Rebooting.{turn_up, site_up}
 use Rattle.tq_run.proofs.States.{twice, calm, images_in, still_in}
 use Rattle.tq_run.proofs.Stopping.{any_steps}
 use Rattle.tq_run.proofs.Turning.{starts_answered, only_done, line_pictures, line_answered}
-
--- a boot of a site whose epoch can be raised
-pub boot_is : (s : Site) → can_boot s ≡ true → boot_turn s ≡ record { condition = Up (booted s); answer = ready (booted s) }
-boot_is s e = ap (λ (b : Bool). chosen b) e
-  where
-    chosen : Bool → Turn
-    chosen b =
-        let outcome : Outcome = cond b (record { site = booted s; answer = ready (booted s) }) (record { site = durable s; answer = answers.Damaged 0 }) in
-        record { condition = cond b (Up outcome.site) (Down (outcome.site ∷ [])); answer = outcome.answer }
-
-boot_site : (s : Site) → can_boot s ≡ true → (boot s).site ≡ booted s
-boot_site s e = ap (λ (b : Bool). (cond b (made s) (last s)).site) e
-  where
-    made : Site → Outcome
-    made x = record { site = booted x; answer = ready (booted x) }
-
-    last : Site → Outcome
-    last x = record { site = durable x; answer = answers.Damaged 0 }
 
 -- the turn of line 0
 abbrev pub first_turn : Bool → Site → Turn
@@ -60,8 +40,8 @@ first_is false found s = refl
 
 -- an image of a boot is one of line 0's
 image_of_boot : (rose : Bool) (s : Site) (image : List ℕ) → can_boot s ≡ true → ImageStands (booted s) image → ImageStandsFor (first_turn rose s).condition image
-image_of_boot true s image can is = (1, durable (step s Boot).site, omega arith, refl, twice (step s Boot).site image (subst (λ (x : Site). ImageStands x image) (sym (boot_site s can)) is))
-image_of_boot false s image can is = subst (λ (t : Turn). ImageStandsFor t.condition image) (sym (boot_is s can)) is
+image_of_boot true s image can is = (1, durable (step s Boot).site, omega arith, refl, twice (step s Boot).site image (subst (λ (x : Site). ImageStands x image) (sym (site_up s can)) is))
+image_of_boot false s image can is = subst (λ (t : Turn). ImageStandsFor t.condition image) (sym (turn_up s can)) is
 
 only_one : (s : Site) (image : List ℕ) → Any (λ x. ImageStands x image) (s ∷ []) → ImageStands s image
 only_one s image any = at any.0 any.1 any.2 any.3 any.4
@@ -121,7 +101,7 @@ module _ (found : Site) (a b : View) {r : Result (Unit {0}) Failed} (is : site_f
           some_is x y e = cc
 
       booted_to : t ≡ record { condition = Up (booted found); answer = ready (booted found) }
-      booted_to = ap (λ (b : Bool). first_turn b found) (calm a.faults d.faults calm_boot) ∙ boot_is found (ap can_boot (sym found_is) ∙ boots_is.raisable)
+      booted_to = ap (λ (b : Bool). first_turn b found) (calm a.faults d.faults calm_boot) ∙ turn_up found (ap can_boot (sym found_is) ∙ boots_is.raisable)
 
       up_after : IsIn (states.Up m) t.condition d
       up_after = subst (λ (u : Turn). IsIn (states.Up m) u.condition d) (sym booted_to) (record { site = boots_is.site ∙ ap booted found_is; on = on })

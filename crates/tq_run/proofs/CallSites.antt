@@ -1,10 +1,11 @@
 -- A call on the space of a device: the machine's site after it, and what the device has then.
-use Rattle.std.proofs.Common.{◌≡◌, ◌⊎◌, inl, inr, ⊎_elim, ◌≤◌, ℕ, ◌+◌, List, [], ◌∷◌, ◌++◌, length, codes, Option, Some, None, Bool, true, false, cond, refl, sym, ◌∙◌, ap, subst, arith, leb-true}
+use Rattle.std.proofs.Common.{◌≡◌, inl, inr, ⊎_elim, ◌≤◌, ℕ, ◌+◌, List, [], ◌∷◌, ◌++◌, length, codes, Option, Some, None, Bool, true, false, cond, refl, sym, ◌∙◌, ap, subst, arith, leb-true}
 use Rattle.std.specs.Prelude.{if◌then◌else◌, ◌==◌, ◌&&◌, ◌||◌, nat_lt, nat_le, is_some}
 use Rattle.std.specs.Str.{bytes_eq}
 use Rattle.std.proofs.lemmas.Bool.{and_parts, le-ltb}
 use Rattle.std.proofs.lemmas.List.Folds.{list_all-append}
 use Rattle.tq_host.specs.View.{View}
+use Rattle.tq_host.proofs.Within.{wider}
 use Rattle.tq_host.specs.Within.{Within}
 use Rattle.tq_types.specs.declared.identifiers.Arrival.{Arrival}
 use Rattle.tq_model.specs.declared.answer.Answer.{Answer}
@@ -39,7 +40,6 @@ use Rattle.tq_run.specs.declared.calls.Called.{Called}
 use Rattle.tq_run.specs.declared.calls.Called.TheVariants.{Refused, Granted}
 use Rattle.tq_run.specs.Calls.{full_log, refusal_in, enqueued_in, enqueue_refusal_in, dequeued_in, dequeue_refusal_in, queue_refusal_in, IsCalled, IsSameOrChanged, HasChanged, answer_of, numbers_of}
 use Rattle.tq_run.proofs.FoundLemmas.{part_of_stands, image_at}
-use Rattle.tq_run.proofs.Stopping.{other_step}
 use Rattle.tq_device.proofs.Offered.{below_stands}
 
 -- ---- the space that is named
@@ -276,7 +276,7 @@ module _ (m : Manager) (d : DeviceContent) (n : NamedSpace) (f : SpaceFile) (con
 
     -- the images within it
     pub within_call : (a b : View) → AreOn m a → Within 0 IsSameButSpace (IsSameOrChanged f refusal epoch number number' size t) a b → Within 0 IsAnyStep (IsEither (site_of m) o.site) a b
-    within_call a b on within = other_step 0 IsSameButSpace IsAnyStep (IsSameOrChanged f refusal epoch number number' size t) (IsEither (site_of m) o.site) a b (λ i c was step has. (tt, either i c (on i was) step has)) within
+    within_call a b on within = wider 0 IsSameButSpace IsAnyStep (IsSameOrChanged f refusal epoch number number' size t) (IsEither (site_of m) o.site) a b (λ i c was step has. (tt, either i c (on i was) step has)) within
       where
         at_place : (held : IndexedSpace) (logged : ℕ) (c : List ℕ) → HasSpace (place_in f) epoch held logged c → HasSpace (place_of d n) d.epoch held logged c
         at_place held logged c has = subst (λ (k : ℕ). HasSpace (place_of d n) k held logged c) epoch_is (subst (λ (p : SpacePlace). HasSpace p epoch held logged c) place has)

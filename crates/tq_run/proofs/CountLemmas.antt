@@ -1,14 +1,13 @@
 -- How the counts of the parts of a run add up.
-use Rattle.std.proofs.Common.{◌≡◌, ◌≢◌, ◌≤◌, ◌<◌, ℕ, Result, Ok, Err, refl, sym, ◌∙◌, ap, subst, IfOk, OnOk, OnErr, arith}
+use Rattle.std.proofs.Common.{◌≡◌, ◌≢◌, ℕ, Result, Ok, Err, refl, sym, ◌∙◌, ap, subst, IfOk, OnOk, OnErr, arith}
 use Rattle.std.specs.Result.{MatchResult, IsErrAnd}
 use Rattle.tq_host.specs.View.{View}
 use Rattle.tq_host.specs.Calls.{HasCauseOf}
-use Rattle.tq_run.specs.declared.status.Status.{Status}
 use Rattle.tq_run.specs.declared.status.Status.TheVariants as status
 use Rattle.tq_run.specs.declared.status.Stop.{Stop}
 use Rattle.tq_run.specs.declared.status.Stop.TheVariants.{Damaged, Memory, Input, Output, Device, TooMuchInput}
 use Rattle.tq_run.specs.Ending.{status_for}
-use Rattle.tq_run.specs.Counts.{Rises, IsQuiet, RoseDevice, RoseInput, RoseOutput, StopCounts, HasCounts, IsCalm, LostInput, LostOutput, RunStopCounts, HasRunCounts}
+use Rattle.tq_run.specs.Counts.{Rises, IsQuiet, StopCounts, HasCounts, IsCalm, RunStopCounts, HasRunCounts}
 
 pub quiet : (v : View) → IsQuiet v v
 quiet v = record { device = refl; input = refl; output = refl }

@@ -1,14 +1,13 @@
 -- The site for which one device stands, by what is on it.
-use Rattle.std.proofs.Common.{◌≡◌, ◌≢◌, ◌⊎◌, ◌<◌, ◌≤◌, ℕ, ◌+◌, ◌*◌, List, [], ◌∷◌, refl, sym, ◌∙◌, ap, subst, arith, Option, Some, None, Bool, true, false, length, cond}
-use Rattle.std.specs.Prelude.{◌==◌, nat_lt, ◌&&◌, if◌then◌else◌, option_map}
+use Rattle.std.proofs.Common.{◌≡◌, ◌<◌, ◌≤◌, ℕ, List, refl, sym, ◌∙◌, ap, subst, arith, Option, Some, None, true, false, length}
+use Rattle.std.specs.Prelude.{nat_lt, option_map}
 use Rattle.std.proofs.lemmas.Bool.Decides.{nat_tests}
 use Rattle.tq_host.specs.View.{View}
-use Rattle.tq_model.specs.Space.{Space, crashed}
-use Rattle.tq_model.specs.Moves.{IndexedSpace, space_of}
+use Rattle.tq_model.specs.Space.{Space}
+use Rattle.tq_model.specs.Moves.{IndexedSpace}
 use Rattle.tq_model.specs.Plain.{IsPlainSpace}
 use Rattle.tq_model.specs.Parts.{IsPart}
-use Rattle.tq_model.specs.Site.{Site, Placed, durable}
-use Rattle.tq_model.specs.Step.{booted, can_boot}
+use Rattle.tq_model.specs.Site.{Site, durable}
 use Rattle.tq_model.specs.Reading.{Reading, Blank, Holds, Damaged, reading, site_read, site_found, placed_as, content_with}
 use Rattle.tq_model.specs.Reading as reads
 use Rattle.tq_model.specs.Faulty.{StandFor}
@@ -18,9 +17,9 @@ use Rattle.tq_device.specs.declared.content.DeviceContent.{DeviceContent}
 use Rattle.tq_device.specs.declared.content.NamedSpace.{NamedSpace}
 use Rattle.tq_device.specs.Content.{Stands, part_of, named_view}
 use Rattle.tq_spacefile.specs.declared.file.SpaceFile.{SpaceFile}
-use Rattle.tq_spacefile.specs.File.{HasSpace, IsFile, place_in, held_in, logged_in, has_space}
+use Rattle.tq_spacefile.specs.File.{HasSpace, held_in, logged_in, has_space}
 use Rattle.tq_run.specs.declared.manager.Manager.{Manager}
-use Rattle.tq_run.specs.Manager.{site_of, site_with, site_at, placed_at, placed_of, placed_in, place_of, IsOn, IsContentOn, IsFileOn, IsDeviceOn, IsSpaceOn, IsFileAt, IsLoaded, loaded_site, is_bootable, IsBooted, IsRaised}
+use Rattle.tq_run.specs.Manager.{site_of, site_with, site_at, placed_at, placed_in, place_of, IsOn, IsContentOn, IsFileOn, IsFileAt, IsLoaded, loaded_site, is_bootable, IsBooted, IsRaised}
 use Rattle.tq_run.specs.Stops.{ImageStands}
 
 pub part_of_stands : (d : DeviceContent) (image : List ℕ) → Stands d image → IsPart (part_of d) image

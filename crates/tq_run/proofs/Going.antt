@@ -10,15 +10,15 @@ use Rattle.tq_model.specs.declared.request.Request.{Request}
 use Rattle.tq_model.specs.Site.{Site}
 use Rattle.tq_model.specs.Text.{line_text}
 use Rattle.tq_model.specs.Grammar.{script_lines, script_requests, line_request}
-use Rattle.tq_model.specs.Reading.{site_found, reading, combined}
+use Rattle.tq_model.specs.Reading.{reading, combined}
 use Rattle.tq_model.specs.declared.request.Request.TheVariants.{Boot}
-use Rattle.tq_model.specs.Faulty.{Condition, Up, Down, Turn, Progress, StandForState}
+use Rattle.tq_model.specs.Faulty.{Condition, Up, Down, Turn, StandForState}
 use Rattle.tq_device.specs.Content.{IsAnyStep}
 use Rattle.tq_run.specs.declared.state.State.{State}
 use Rattle.tq_run.specs.Output.{TellsMore}
 use Rattle.tq_run.specs.Stops.{HasNoNewImage, IsWaiting, IsOfRun}
 use Rattle.tq_run.specs.Ending.{IsDone}
-use Rattle.tq_run.specs.Turns.{Origin, origin_of, ImageStandsFor, IsAnswered, IsOfLines, IsBeforeOrAfter, turn_between, told_after}
+use Rattle.tq_run.specs.Turns.{Origin, origin_of, ImageStandsFor, IsOfLines, IsBeforeOrAfter, turn_between, told_after}
 use Rattle.tq_run.specs.Standing.{IsIn, HasReached}
 use Rattle.tq_run.proofs.Turning.{turn_told, still_answered, ran_more, of_answered_more, only_done, line_pictures, line_answered}
 use Rattle.tq_run.proofs.States.{images_in, still_in}

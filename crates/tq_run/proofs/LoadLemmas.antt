@@ -1,10 +1,9 @@
 -- What the load of a space comes to.
-use Rattle.std.proofs.Common.{◌≡◌, ◌≢◌, ◌⊎◌, inl, inr, ⊎_elim, ◌≤◌, ◌<◌, ℕ, Result, Ok, Err, refl, sym, ◌∙◌, ap, arith}
+use Rattle.std.proofs.Common.{◌≡◌, ◌≢◌, ◌⊎◌, ⊎_elim, ◌≤◌, ◌<◌, ℕ, Result, Ok, Err, refl, ap, arith}
 use Rattle.tq_host.specs.View.{View, Streams}
 use Rattle.tq_host.specs.Calls.{HasCauseOf}
 use Rattle.tq_spacefile.specs.declared.fault.FileError.{FileError}
 use Rattle.tq_spacefile.specs.declared.fault.FileError.TheVariants as files
-use Rattle.tq_run.specs.declared.status.Stop.{Stop}
 use Rattle.tq_run.specs.declared.status.Stop.TheVariants as stops
 use Rattle.tq_run.specs.Counts.{IsQuiet, StopCounts}
 use Rattle.tq_run.specs.Manager.{stop_for}

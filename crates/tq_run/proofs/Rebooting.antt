@@ -91,19 +91,19 @@ outcome_from raisable d = cond raisable (record { site = raised d; answer = read
 abbrev turn_from : Bool → Site → Turn
 turn_from raisable d = let outcome = outcome_from raisable d in record { condition = cond raisable (Up outcome.site) (Down (outcome.site ∷ [])); answer = outcome.answer }
 
-abbrev up_turn : Site → Turn
+abbrev pub up_turn : Site → Turn
 up_turn s = record { condition = Up (booted s); answer = ready (booted s) }
 
 abbrev damaged_turn : Site → Turn
 damaged_turn s = record { condition = Down (durable s ∷ []); answer = answers.Damaged 0 }
 
-turn_up : (s : Site) → can_boot s ≡ true → boot_turn s ≡ up_turn s
+pub turn_up : (s : Site) → can_boot s ≡ true → boot_turn s ≡ up_turn s
 turn_up s raisable = ap (λ (b : Bool). turn_from b (durable s)) raisable
 
 turn_damaged : (s : Site) → can_boot s ≡ false → boot_turn s ≡ damaged_turn s
 turn_damaged s lost = ap (λ (b : Bool). turn_from b (durable s)) lost
 
-site_up : (s : Site) → can_boot s ≡ true → (boot s).site ≡ booted s
+pub site_up : (s : Site) → can_boot s ≡ true → (boot s).site ≡ booted s
 site_up s raisable = ap (λ (b : Bool). (outcome_from b (durable s)).site) raisable
 
 -- an image stands for a site, which is found there without what a crash takes

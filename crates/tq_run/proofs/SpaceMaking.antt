@@ -1,5 +1,5 @@
 -- How a space is made: what a stop leaves while it is, and what is on the device then.
-use Rattle.std.proofs.Common.{◌≡◌, ◌⊎◌, inl, inr, ⊎_elim, ◌<◌, ◌≤◌, ℕ, ◌+◌, ◌-◌, ◌*◌, List, [], Option, Some, None, refl, sym, ◌∙◌, ap, subst, arith, length, get_or, take, drop}
+use Rattle.std.proofs.Common.{◌≡◌, inl, inr, ⊎_elim, ◌<◌, ◌≤◌, ℕ, ◌+◌, ◌-◌, ◌*◌, List, [], Option, Some, None, refl, sym, ◌∙◌, ap, subst, arith, length, get_or, take, drop}
 use Rattle.std.specs.Prelude.{option_map}
 use Rattle.std.specs.Option.{option_and_then}
 use Rattle.std.proofs.lemmas.Bool.Decides.{nat_tests}
@@ -9,7 +9,7 @@ use Rattle.tq_field.specs.Places.{run_at}
 use Rattle.tq_field.specs.GatedLog.{log_reading}
 use Rattle.tq_host.specs.View.{Told, View, IsLawful, IsSettled}
 use Rattle.tq_host.specs.Within.{Within}
-use Rattle.tq_host.proofs.Within.{weaker, in_a_row}
+use Rattle.tq_host.proofs.Within.{weaker, in_a_row, wider}
 use Rattle.tq_model.specs.declared.answer.Answer.{Answer}
 use Rattle.tq_model.specs.declared.answer.Answer.TheVariants as answers
 use Rattle.tq_model.specs.declared.answer.SpaceAnswer.TheVariants as space_answers
@@ -38,7 +38,7 @@ use Rattle.tq_run.specs.Stops.{ImageStands, IsEither}
 use Rattle.tq_run.proofs.FoundLemmas.{image_at, image_bare, part_of_stands}
 use Rattle.tq_device.proofs.Offered.{below_stands}
 use Rattle.tq_device.proofs.Longer.{longer_stands}
-use Rattle.tq_run.proofs.Stopping.{any_steps, other_step}
+use Rattle.tq_run.proofs.Stopping.{any_steps}
 
 -- ---- the pages of a space
 
@@ -112,11 +112,11 @@ settled_all P v lawful settled done c may = subst P (sym (settled c may)) (done 
 module _ (d : DeviceContent) (name : List ℕ) (shape : Shape) where
   -- the device gets its length
   pub growing : (a b : View) → d.named ≡ None → ((c : List ℕ) → a.may_leave 0 c → Stands d c) → Within 0 IsLonger IsAny a b → Within 0 IsAnyStep (Stands d) a b
-  growing a b bare stand within = other_step 0 IsLonger IsAnyStep IsAny (Stands d) a b (λ i c was step any. (tt, longer_stands d i c bare step (stand i was))) within
+  growing a b bare stand within = wider 0 IsLonger IsAnyStep IsAny (Stands d) a b (λ i c was step any. (tt, longer_stands d i c bare step (stand i was))) within
 
   -- the space gets its pages
   formatting : (a b : View) → ((c : List ℕ) → a.may_leave 0 c → Stands d c) → Within 0 IsSameButSpace IsAny a b → Within 0 IsAnyStep (Stands d) a b
-  formatting a b stand within = other_step 0 IsSameButSpace IsAnyStep IsAny (Stands d) a b (λ i c was step any. (tt, below_stands d i c step.size step.bytes (stand i was))) within
+  formatting a b stand within = wider 0 IsSameButSpace IsAnyStep IsAny (Stands d) a b (λ i c was step any. (tt, below_stands d i c step.size step.bytes (stand i was))) within
 
   -- the device gets its length, and then the space its pages
   pub preparing : (a b e : View) → d.named ≡ None → ((c : List ℕ) → a.may_leave 0 c → Stands d c) → Within 0 IsLonger IsAny a b → Within 0 IsSameButSpace IsAny b e → Within 0 IsAnyStep (Stands d) a e
@@ -127,7 +127,7 @@ module _ (d : DeviceContent) (name : List ℕ) (shape : Shape) where
   -- the space comes into the table
   pub entering : (a b : View) → ((c : List ℕ) → a.may_leave 0 c → IsFormatted shape c × (space_end shape.pages ≤ length c)) → Within 0 IsSameButTable (IsOldOrEntered d (name, shape.pages)) a b → Within 0 IsAnyStep (IsBareOrNew d name shape) a b
   entering a b formatted within =
-      other_step 0 IsSameButTable IsAnyStep (IsOldOrEntered d (name, shape.pages)) (IsBareOrNew d name shape) a b (λ i c was step is. (
+      wider 0 IsSameButTable IsAnyStep (IsOldOrEntered d (name, shape.pages)) (IsBareOrNew d name shape) a b (λ i c was step is. (
         tt,
         ⊎_elim
             (λ old. inl (record { size = old.size; tests = old.tests; part = old.part }))

@@ -1,5 +1,5 @@
 -- A line that is done while there is a site, and one while there is none.
-use Rattle.std.proofs.Common.{◌≡◌, ◌≢◌, ◌⊎◌, inl, inr, ◌<◌, ◌≤◌, ℕ, ◌+◌, List, [], ◌∷◌, Option, Some, Bool, true, false, refl, sym, ◌∙◌, ap, subst, arith}
+use Rattle.std.proofs.Common.{◌≡◌, ◌≢◌, inl, inr, ◌<◌, ◌≤◌, ℕ, List, [], ◌∷◌, Option, Some, Bool, true, false, refl, sym, ◌∙◌, ap, subst, arith}
 use Rattle.std.specs.Prelude.{nat_lt}
 use Rattle.std.proofs.lemmas.Bool.Decides.{nat_tests}
 use Rattle.tq_host.specs.View.{View, last}
@@ -12,7 +12,7 @@ use Rattle.tq_model.specs.declared.request.Request.TheVariants.{Nothing, Boot, B
 use Rattle.tq_model.specs.Site.{Site, durable}
 use Rattle.tq_model.specs.Step.{step}
 use Rattle.tq_model.specs.Reading.{site_found}
-use Rattle.tq_model.specs.Faulty.{Condition, Up, Down, Turn, down_turn, down_answer, failing_turn, steady_turn, turn_at}
+use Rattle.tq_model.specs.Faulty.{Condition, Up, Down, Turn, down_answer, failing_turn, steady_turn, turn_at}
 use Rattle.tq_model.proofs.Images.{found_durable}
 use Rattle.tq_device.specs.Content.{IsAnyStep}
 use Rattle.tq_run.specs.declared.manager.Manager.{Manager}
@@ -24,7 +24,7 @@ use Rattle.tq_run.specs.Counts.{Rises, StopCounts}
 use Rattle.tq_run.specs.Manager.{site_of}
 use Rattle.tq_run.specs.Stops.{AreOn, IsEither, ImageStands, HasNoNewImage}
 use Rattle.tq_run.specs.Turns.{ImageStandsFor, turn_between, IsBeforeOrAfter}
-use Rattle.tq_run.specs.Standing.{IsIn, IsUp, HasTurned, IsTurning}
+use Rattle.tq_run.specs.Standing.{IsIn, HasTurned, IsTurning}
 use Rattle.tq_run.proofs.FoundLemmas.{image_stands}
 use Rattle.tq_run.proofs.Stopping.{any_steps}
 

@@ -1,19 +1,14 @@
 -- The status of a run, by how it ended.
-use Rattle.std.proofs.Common.{◌≡◌, ◌≢◌, ◌⊎◌, inl, inr, ◌≤◌, ◌<◌, ℕ, zero, suc, ◌+◌, List, [], ◌∷◌, ◌++◌, Option, Some, None, Bool, true, false, Result, Ok, Err, OnOk, refl, sym, ◌∙◌, ap, subst, arith, length, get_or, length-append}
-use Rattle.std.specs.Prelude.{nat_lt}
-use Rattle.std.proofs.lemmas.Bool.Decides.{nat_tests}
-use Rattle.std.proofs.lemmas.List.{append-nil, append_cancel_left}
-use Rattle.tq_host.specs.View.{View, Stamp, Told, TellsAll}
-use Rattle.tq_host.specs.Calls.{Rose, HasCauseOf, next}
-use Rattle.tq_model.specs.Site.{Site}
+use Rattle.std.proofs.Common.{◌≡◌, ◌≢◌, ◌⊎◌, inl, inr, List, ◌++◌, Bool, true, false, Result, Ok, Err, OnOk, refl}
+use Rattle.tq_host.specs.View.{View, Stamp}
+use Rattle.tq_host.specs.Calls.{Rose}
 use Rattle.tq_model.specs.Reading.{site_found}
 use Rattle.tq_model.specs.Faulty.{rose_at}
-use Rattle.tq_run.specs.declared.status.Status.{Status}
 use Rattle.tq_run.specs.declared.status.Status.TheVariants as status
 use Rattle.tq_run.specs.declared.status.Stop.{Stop}
 use Rattle.tq_run.specs.declared.status.Stop.TheVariants.{Damaged, Memory, Input, Output, Device, TooMuchInput}
 use Rattle.tq_run.specs.Counts.{NoneRose, HasRunCounts}
-use Rattle.tq_run.specs.Ending.{trace_of, status_for, FailsInLine0, IsComplete, IsDone}
+use Rattle.tq_run.specs.Ending.{trace_of, status_for, FailsInLine0, IsComplete}
 use Rattle.tq_run.specs.Manager.{is_bootable}
 use Rattle.tq_run.specs.Output.{TellsMore, HasBegun}
 use Rattle.tq_run.proofs.Beginning.{calm_begun}

@@ -1,45 +1,27 @@
 -- What a stop leaves within a line's device part.
-use Rattle.std.proofs.Common.{◌≡◌, ◌⊎◌, inl, inr, ⊎_elim, ◌≤◌, ◌<◌, ℕ, zero, suc, ◌+◌, ◌-◌, List, [], ◌∷◌, ◌++◌, Option, Some, None, refl, sym, ◌∙◌, ap, subst, arith, length, take, append_assoc, length-append}
-use Rattle.std.proofs.lemmas.List.{append-nil, length-take, take_all}
-use Rattle.tq_host.specs.View.{View, Picture, Streams, IsSettled}
-use Rattle.tq_host.specs.Calls.{IsGiving}
-use Rattle.tq_host.specs.Within.{Came, Within, IsOfCall, Ran}
+use Rattle.std.proofs.Common.{◌≡◌, inl, inr, ⊎_elim, ℕ, List, Option, Some, None, refl, sym, ◌∙◌, ap, subst}
+use Rattle.tq_host.specs.View.{View, IsSettled}
+use Rattle.tq_host.specs.Within.{Within}
 use Rattle.tq_host.proofs.Steps.{IsSteps}
 use Rattle.tq_host.proofs.Within.{starts, weaker}
-use Rattle.tq_host.proofs.Running.{ran_start, ran_on, ran_call, ran_weaker}
-use Rattle.tq_model.specs.declared.request.Request.{Request}
-use Rattle.tq_model.specs.Site.{Site, durable, blank_site, capacity_of}
+use Rattle.tq_model.specs.Site.{Site, durable, capacity_of}
 use Rattle.tq_model.specs.declared.request.Creation.{Creation}
 use Rattle.tq_model.specs.declared.answer.DeviceAnswer.{DeviceAnswer}
 use Rattle.tq_model.specs.declared.answer.Answer.TheVariants as answers
 use Rattle.tq_model.specs.declared.answer.DeviceAnswer.TheVariants as device_answers
-use Rattle.tq_model.specs.Step.{Outcome, step, creation_refusal, create_device, unless_refused, with_new_device, new_volume, site_asked}
-use Rattle.tq_model.specs.Text.{line_text}
+use Rattle.tq_model.specs.Step.{Outcome, creation_refusal, create_device, unless_refused, with_new_device, new_volume, site_asked}
 use Rattle.tq_device.specs.declared.content.DeviceContent.{DeviceContent}
 use Rattle.tq_device.specs.Content.{IsAnyStep, IsBlankOrNew, Stands, new_content}
 use Rattle.tq_run.specs.declared.manager.Manager.{Manager}
 use Rattle.tq_device.specs.declared.content.NamedSpace.{NamedSpace}
 use Rattle.tq_spacefile.specs.declared.file.SpaceFile.{SpaceFile}
 use Rattle.tq_run.specs.Manager.{site_of, site_with, site_at, IsOn, IsContentOn, IsFileOn}
-use Rattle.tq_run.specs.Stops.{ImageStands, IsEither, AreOn}
+use Rattle.tq_run.specs.Stops.{IsEither, AreOn}
 use Rattle.tq_run.proofs.FoundLemmas.{blank_found, image_bare, part_of_stands, image_stands}
 
 -- any step of an image
 pub any_steps : IsSteps IsAnyStep
 any_steps = record { none = λ c. tt; both = λ a b c first second. tt }
-
--- another step and another property of the images
-pub other_step : (dev : ℕ) (S T : List ℕ → List ℕ → Type 0) (Q P : List ℕ → Type 0) (a b : View) → ((i c : List ℕ) → a.may_leave dev i → S i c → Q c → T i c × P c) → Within dev S Q a b → Within dev T P a b
-other_step dev S T Q P a b to within =
-    let came : (c : List ℕ) → Came dev S Q a c → Came dev T P a c = λ c is. let both = to is.image c is.was is.step is.now in record { image = is.image; was = is.was; step = both.0; now = both.1 } in
-    record {
-      later = within.later;
-      own = λ c may. came c (within.own c may);
-      others = within.others;
-      others_read = within.others_read;
-      streams = within.streams;
-      pictures = λ t p le left. ⊎_elim (λ old. inl old) (λ is. inr (record { own = came (p.images dev) is.own; others = is.others; output = is.output })) (within.pictures t p le left);
-    }
 
 -- where nothing is done
 pub nothing_done : (m : Manager) (s : Site) (v : View) → AreOn m v → Within 0 IsAnyStep (IsEither (site_of m) s) v v

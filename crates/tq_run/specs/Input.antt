@@ -1,5 +1,5 @@
 -- The script as it is taken.
-use Rattle.std.specs.Prelude.{◌≡◌, ◌≤◌, ℕ, ◌+◌, List, [], ◌++◌, length}
+use Rattle.std.specs.Prelude.{◌≡◌, ◌≤◌, ℕ, ◌+◌, List, [], ◌++◌}
 use Rattle.tq_host.specs.View.{View, Told, Streams}
 
 -- takes change nothing but the input

@@ -1,5 +1,5 @@
 -- What the manager holds in memory, as the machine's site.
-use Rattle.std.specs.Prelude.{◌≡◌, ◌<◌, ◌≤◌, ◌+◌, ◌*◌, ℕ, Bool, true, false, List, [], ◌∷◌, length, Option, Some, None, option_map}
+use Rattle.std.specs.Prelude.{◌≡◌, ◌<◌, ◌+◌, ◌*◌, ℕ, Bool, true, false, List, [], ◌∷◌, length, Option, Some, None, option_map}
 use Rattle.tq_host.specs.View.{View}
 use Rattle.tq_model.specs.declared.answer.Identity.{Identity}
 use Rattle.tq_model.specs.Moves.{IndexedSpace, space_of}

@@ -1,5 +1,5 @@
 -- How a space is made.
-use Rattle.std.specs.Prelude.{◌≡◌, ◌<◌, ◌≤◌, ◌+◌, ◌⊎◌, ℕ, List, length, Option, Some, None}
+use Rattle.std.specs.Prelude.{◌≡◌, ◌<◌, ◌≤◌, ◌+◌, ◌⊎◌, ℕ, List, length, Some, None}
 use Rattle.tq_model.specs.declared.space.Shape.{Shape}
 use Rattle.tq_model.specs.declared.request.SpaceCreation.{SpaceCreation}
 use Rattle.tq_model.specs.Space.{overhead_pages}

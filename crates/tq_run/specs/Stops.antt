@@ -1,7 +1,6 @@
 -- What a stop leaves within the parts of a run.
 use Rattle.std.specs.Prelude.{◌≡◌, ◌⊎◌, ◌≤◌, ℕ, ◌+◌, ◌-◌, List, ◌++◌, length, take, Some, true, Any}
 use Rattle.tq_host.specs.View.{View, Picture, Stamp, AreNow}
-use Rattle.tq_model.specs.declared.request.Request.{Request}
 use Rattle.tq_model.specs.Site.{Site, durable}
 use Rattle.tq_model.specs.Reading.{site_found}
 use Rattle.tq_model.specs.Step.{can_boot, booted}

@@ -1,6 +1,5 @@
-use Rattle.std.proofs.Common.{◌≡◌, ◌<◌, Result, IfOk, OnOk, IfErr, Ok, Err, refl, sym, subst, rules}
+use Rattle.std.proofs.Common.{◌≡◌, Result, IfErr, Err, refl, sym, subst, rules}
 use Rattle.std.proofs.lemmas.Result.{IfOk-at_ok}
-use Rattle.tq_host.specs.View.{View}
 use Rattle.tq_model.specs.declared.answer.Answer.{Answer}
 use Rattle.tq_model.specs.declared.answer.Answer.TheVariants as answers
 use Rattle.tq_model.specs.Faulty.{down_answer}

@@ -1,4 +1,4 @@
-use Rattle.std.proofs.Common.{◌≡◌, ◌≢◌, ◌<◌, ◌≤◌, ◌+◌, ℕ, List, [], ◌∷◌, ◌++◌, Result, Ok, Err, length, refl, sym, ◌∙◌, ap, subst, rules, arith}
+use Rattle.std.proofs.Common.{◌≡◌, ◌<◌, ℕ, List, [], ◌∷◌, ◌∙◌, subst}
 use Rattle.tq_host.specs.View.{TellsAll, last}
 use Rattle.tq_host.specs.Within.{Ran}
 use Rattle.tq_host.proofs.Running.{ran_on}
@@ -8,7 +8,7 @@ use Rattle.tq_model.specs.Grammar.{script_requests}
 use Rattle.tq_run.specs.Counts.{IsQuiet}
 use Rattle.tq_run.specs.Turns.{Origin, IsOfLines}
 use Rattle.tq_run.specs.Standing.{HasReached}
-use Rattle.tq_run.proofs.CountLemmas.{on_ok, of_ok, quiet_calm, run_counts, run_counts_on}
+use Rattle.tq_run.proofs.CountLemmas.{on_ok, of_ok}
 use Rattle.tq_run.proofs.Going.{waiting_ran, waiting_reached, tells_on, tells_none}
 use Rattle.tq_run.proofs.running.answer_script.Goals as goal
 

@@ -1,4 +1,4 @@
-use Rattle.std.proofs.Common.{◌≡◌, ◌≢◌, ◌<◌, ◌≤◌, ℕ, List, [], ◌∷◌, ◌++◌, Option, Some, Result, Ok, Err, refl, sym, ◌∙◌, ap, subst, rules, arith}
+use Rattle.std.proofs.Common.{◌≡◌, ◌<◌, ℕ, List, [], ◌∷◌, Some, Result, Err, sym, ◌∙◌, ap, subst, rules, arith}
 use Rattle.tq_host.specs.View.{TellsAll, last}
 use Rattle.tq_host.specs.Within.{Ran}
 use Rattle.tq_host.proofs.Running.{ran_on}
@@ -7,9 +7,9 @@ use Rattle.tq_model.specs.Site.{Site}
 use Rattle.tq_model.specs.Grammar.{script_requests}
 use Rattle.tq_model.specs.Reading.{site_found}
 use Rattle.tq_run.specs.declared.status.Stop.{Stop}
-use Rattle.tq_run.specs.declared.status.Stop.TheVariants.{Device, Damaged}
+use Rattle.tq_run.specs.declared.status.Stop.TheVariants.{Device}
 use Rattle.tq_run.specs.Counts.{IsQuiet, HasRunCounts}
-use Rattle.tq_run.specs.Ending.{IsDone, FailsInLine0}
+use Rattle.tq_run.specs.Ending.{IsDone}
 use Rattle.tq_run.specs.Turns.{IsOfLines, origin_of}
 use Rattle.tq_run.specs.Standing.{HasReached}
 use Rattle.tq_run.proofs.CountLemmas.{on_ok, of_ok, quiet_calm, stop_counts, run_counts_on}

@@ -1,5 +1,5 @@
-use Rattle.std.proofs.Common.{◌≡◌, ◌≢◌, ◌<◌, ◌≤◌, ◌+◌, ℕ, List, [], ◌∷◌, ◌++◌, Result, Ok, Err, length, refl, sym, ◌∙◌, ap, subst, rules, arith}
-use Rattle.tq_host.specs.View.{Streams, TellsAll, last}
+use Rattle.std.proofs.Common.{◌≡◌, Err, length, sym, ◌∙◌, ap, subst, rules}
+use Rattle.tq_host.specs.View.{Streams}
 use Rattle.tq_host.specs.Calls.{IsGiven, IsGiving}
 use Rattle.tq_host.specs.Within.{Ran}
 use Rattle.tq_model.specs.Text.{line_text}

@@ -1,18 +1,15 @@
-use Rattle.std.proofs.Common.{◌≡◌, ◌≢◌, ◌⊎◌, ◌<◌, ◌∙◌, subst, sym, refl, arith, Some, Err, Result, OnOk, [], ◌∷◌, ap}
+use Rattle.std.proofs.Common.{◌≡◌, ◌⊎◌, ◌∙◌, subst, sym, refl, Err, Result, [], ◌∷◌, ap}
 use Rattle.std.proofs.lemmas.List.{append-nil}
-use Rattle.tq_host.specs.View.{TellsAll, last}
 use Rattle.tq_host.specs.Calls.{HasCauseOf}
 use Rattle.tq_host.proofs.Running.{each}
 use Rattle.tq_model.specs.declared.request.Request.TheVariants.{Boot}
-use Rattle.tq_model.specs.Site.{Site}
 use Rattle.tq_model.specs.Grammar.{script_requests}
-use Rattle.tq_model.specs.Reading.{site_found}
 use Rattle.tq_run.specs.declared.status.Status.{Status}
 use Rattle.tq_run.specs.declared.status.Status.TheVariants as status
 use Rattle.tq_run.specs.declared.status.Stop.{Stop}
 use Rattle.tq_run.specs.declared.status.Stop.TheVariants.{Device}
 use Rattle.tq_run.specs.Counts.{RoseDevice, HasRunCounts}
-use Rattle.tq_run.specs.Ending.{IsComplete, IsDone, FailsInLine0, status_for}
+use Rattle.tq_run.specs.Ending.{IsComplete, status_for}
 use Rattle.tq_run.specs.Turns.{IsOfLines, origin_of}
 use Rattle.tq_run.proofs.Beginning.{calm_none}
 use Rattle.tq_run.proofs.Booting.{read_stands}

@@ -1,4 +1,4 @@
-use Rattle.std.proofs.Common.{rules, arith}
+use Rattle.std.proofs.Common.{rules}
 use Rattle.tq_host.proofs.Running.{ran_start}
 use Rattle.tq_run.specs.Stops.{IsWaiting}
 use Rattle.tq_run.proofs.Waiting.{waits_on, no_new_on}

@@ -1,4 +1,4 @@
-use Rattle.std.proofs.Common.{◌≡◌, ℕ, ◌+◌, List, ◌++◌, length}
+use Rattle.std.proofs.Common.{◌≡◌, ◌+◌, ◌++◌, length}
 use Rattle.tq_host.specs.Within.{Ran}
 use Rattle.tq_run.specs.Counts.{IsQuiet}
 use Rattle.tq_run.specs.Stops.{HasNoNewImage, IsWaiting}

@@ -1,10 +1,8 @@
-use Rattle.std.proofs.Common.{◌≡◌, ◌∙◌, ◌<◌, List, ◌∷◌, ◌++◌, [], ℕ, length, sym, ap, subst, rules, refl, arith}
-use Rattle.std.proofs.lemmas.Result.{IfErr-weaker}
+use Rattle.std.proofs.Common.{◌≡◌, ◌∙◌, ◌<◌, List, ◌∷◌, ◌++◌, [], ℕ, length, sym, ap, subst, rules, refl}
 use Rattle.tq_host.specs.View.{TellsAll, last}
 use Rattle.tq_host.specs.Within.{Within, Ran}
 use Rattle.tq_host.specs.Calls.{IsGiven, IsGiving}
 use Rattle.tq_host.proofs.Running.{ran_start}
-use Rattle.tq_model.specs.declared.answer.Answer.{Answer}
 use Rattle.tq_model.specs.declared.request.Request.{Request}
 use Rattle.tq_model.specs.Site.{Site}
 use Rattle.tq_model.specs.Text.{line_text}
@@ -13,7 +11,7 @@ use Rattle.tq_device.specs.Content.{IsAnyStep}
 use Rattle.tq_run.specs.Standing.{HasReached, IsHeld, IsIn}
 use Rattle.tq_run.specs.Turns.{Origin, IsOfLines, IsBeforeOrAfter, turn_between}
 use Rattle.tq_run.proofs.CountLemmas.{on_ok, of_ok}
-use Rattle.tq_run.proofs.Going.{done_line, given_line, line_reached, tells_none}
+use Rattle.tq_run.proofs.Going.{done_line, given_line, line_reached}
 use Rattle.tq_run.proofs.serving.serve_line.Goals as goal
 
 pub returns-in_err-request-clause-stop : goal.returns-in_err-request-clause-stop

@@ -1,11 +1,9 @@
-use Rattle.std.proofs.Common.{◌≡◌, ◌<◌, ◌+◌, ℕ, List, [], ◌∷◌, ◌++◌, length, refl, sym, ◌∙◌, ap, subst, rules, arith}
+use Rattle.std.proofs.Common.{◌≡◌, ◌<◌, ℕ, List, [], ◌∷◌, length, refl, subst, rules, arith}
 use Rattle.std.specs.Prelude.{map}
 use Rattle.tq_host.specs.View.{last}
-use Rattle.tq_model.specs.declared.request.Request.{Request}
 use Rattle.tq_model.specs.Grammar.{script_lines, script_requests, line_request}
 use Rattle.tq_run.specs.Counts.{IsCalm}
-use Rattle.tq_run.specs.Turns.{IsOfLines}
-use Rattle.tq_run.proofs.CountLemmas.{calm, calm_on, run_counts_on}
+use Rattle.tq_run.proofs.CountLemmas.{calm, calm_on}
 use Rattle.tq_run.proofs.Going.{IsSoFar, so_far_first, so_far_next, ends_here, all_ran, all_reached, tells_on, tells_none, requests_first}
 use Rattle.tq_run.proofs.serving.serve_lines.Goals as goal
 

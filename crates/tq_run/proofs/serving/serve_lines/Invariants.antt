@@ -1,4 +1,4 @@
-use Rattle.std.proofs.Common.{◌≡◌, ◌≤◌, ◌<◌, ℕ, ◌+◌, List, ◌∷◌, [], length}
+use Rattle.std.proofs.Common.{◌≤◌, ◌<◌, ◌+◌, ◌∷◌, [], length}
 use Rattle.tq_host.specs.View.{TellsAll, last}
 use Rattle.tq_model.specs.declared.request.Request.{Request}
 use Rattle.tq_model.specs.Site.{Site}
