@@ -12,8 +12,6 @@ mod judging;
 mod layout;
 mod loading;
 mod raising;
-#[cfg(test)]
-mod tests;
 mod writing;
 
 pub use content::{DeviceContent, Found, NamedSpace};

@@ -5,8 +5,6 @@
 mod get;
 mod put;
 mod short;
-#[cfg(test)]
-mod tests;
 
 pub use get::{get_run, get_u16, get_u32, get_u64};
 pub use put::{put_u16, put_u32, put_u64};

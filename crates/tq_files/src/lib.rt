@@ -4,7 +4,5 @@
 mod devices;
 mod file_host;
 mod tally;
-#[cfg(test)]
-mod tests;
 
 pub use file_host::FileHost;

@@ -9,8 +9,6 @@ mod log;
 mod pieces;
 mod reading;
 mod scanning;
-#[cfg(test)]
-mod tests;
 
 pub use fault::GateError;
 pub use layout::{Areas, Layout};

@@ -11,8 +11,6 @@ mod kind;
 mod memory;
 mod outside;
 mod plan;
-#[cfg(test)]
-mod tests;
 
 pub use fuse::FuseHost;
 pub use host::{Device, Failed, Host};

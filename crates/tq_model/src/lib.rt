@@ -12,8 +12,6 @@ mod record;
 mod request;
 mod room;
 mod space;
-#[cfg(test)]
-mod tests;
 
 pub use answer::{
     Answer, Capacity, ClusterRoom, DeviceAnswer, Extent, Extents, Field, Identity, Listing,

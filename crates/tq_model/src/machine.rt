@@ -6,8 +6,6 @@ ghost use Rattle.tq_model.specs.Asked.{answer_to, asked_step, granted_in, number
 ghost use Rattle.tq_model.specs.Fields.{HasFieldsWithin};
 ghost use Rattle.tq_model.specs.Tables.{device_spaces, entry_changed, entry_of};
 
-#[cfg(test)]
-mod age;
 mod asked;
 mod device;
 mod placed;

@@ -9,7 +9,5 @@ mod listings;
 mod named;
 mod spaces;
 mod starts;
-#[cfg(test)]
-mod tests;
 
 pub use lines::answer;

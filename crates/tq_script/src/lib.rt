@@ -12,8 +12,6 @@ mod numerals;
 mod reading;
 mod requests;
 mod table;
-#[cfg(test)]
-mod tests;
 mod texts;
 mod unread;
 mod values;

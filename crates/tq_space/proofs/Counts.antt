@@ -12,7 +12,8 @@ use Rattle.tq_model.specs.Space.{Item, Queue, change_first, has_id, holds_id, wi
 use Rattle.tq_model.specs.Moves.{IndexedQueue, the_queue, has_index, on_queue, item_inserted, item_removed, item_replaced, item_with_id, changed_item, indexed_holds, queue_added, queue_dropped, queue_of, comes_before}
 use Rattle.tq_model.specs.Room.{item_pages, queue_pages}
 use Rattle.tq_space.specs.Plain.{HasNoEntries}
-use Rattle.tq_space.proofs.Places.{list_any-place, find-at, position_or_len-within, map-insert, map-remove, remove-past}
+use Rattle.tq_model.proofs.Places.{list_any-place, find-at, position_or_len-within, map-insert, map-remove}
+use Rattle.tq_space.proofs.Places.{remove-past}
 
 -- the sum of what each queue counts
 abbrev pub total : (Queue → ℕ) → List IndexedQueue → ℕ

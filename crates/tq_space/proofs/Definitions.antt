@@ -13,7 +13,8 @@ use Rattle.tq_space.specs.Slots.{item_at}
 use Rattle.tq_space.specs.Plain.{HasNoEntries}
 use Rattle.tq_space.specs.Shelf.{indexed_at, IsListed}
 use Rattle.tq_space.specs.Grown.{HasRoomIn}
-use Rattle.tq_space.proofs.Places.{position_or_len-map, position-found, position-none, change_first-at, change_first-past, map-remove, find-at, remove-past}
+use Rattle.tq_model.proofs.Places.{position_or_len-map, position-found, position-none, change_first-at, change_first-past, map-remove, find-at}
+use Rattle.tq_space.proofs.Places.{remove-past}
 use Rattle.tq_space.proofs.Keys.{hit, counted, same_indices}
 
 module _ (slots : List (Option Entry)) (queues : List HeldQueue) (index : ℕ) (none : position (λ (q : HeldQueue). q.index == index) queues ≡ None) where

@@ -15,7 +15,7 @@ use Rattle.tq_space.specs.Slots.{slot_item, slot_at, item_at, slot_test, IsPlain
 use Rattle.tq_space.specs.Plain.{HasNoExpirations}
 use Rattle.tq_space.specs.Shelf.{indexed_at, IsListed}
 use Rattle.tq_space.specs.Reads.{indexed_named, HasDistinctIndices}
-use Rattle.tq_space.proofs.Places.{position_or_len-map, position-found, position-none, list_any-place, some-cond, find-at, find-none}
+use Rattle.tq_model.proofs.Places.{position_or_len-map, position-found, position-none, list_any-place, some-cond, find-at, find-none}
 use Rattle.tq_space.proofs.Keys.{hit, all_kept, place-items, first_holding, item_with_id-at}
 
 -- tests of the queues that are seen, and of those that are kept, with one first place

@@ -10,7 +10,7 @@ use Rattle.tq_space.specs.declared.shelf.HeldQueue.{HeldQueue}
 use Rattle.tq_space.specs.Slots.{slot_item, slot_at, item_at, slot_test, slot_count, IsPlainSlot, label_before}
 use Rattle.tq_space.specs.Plain.{IsPlainEntry}
 use Rattle.tq_space.specs.Shelf.{indexed_at, key_count, IsListed}
-use Rattle.tq_space.proofs.Places.{position_or_len-map, position-found, change_first-at, map-insert}
+use Rattle.tq_model.proofs.Places.{position_or_len-map, position-found, change_first-at, map-insert}
 use Rattle.tq_space.proofs.Keys.{hit, all_kept, place-items, frame_keys, frame, IsRekeyed, counted, same_indices, by_key}
 
 module _ (slots slots' : List (Option Entry)) (queues : List HeldQueue) (listed : IsListed slots queues) (at : ℕ) (d : HeldQueue)

@@ -11,7 +11,7 @@ use Rattle.tq_model.specs.Moves.{IndexedQueue, queue_of, has_index, on_queue, it
 use Rattle.tq_space.specs.declared.shelf.HeldQueue.{HeldQueue}
 use Rattle.tq_space.specs.Slots.{slot_item, slot_at, item_at, slot_test, slot_count}
 use Rattle.tq_space.specs.Shelf.{indexed_at, key_count, IsListed}
-use Rattle.tq_space.proofs.Places.{position_or_len-map, position_or_len-agree, position-none, change_first-past, list_any-place, some-cond}
+use Rattle.tq_model.proofs.Places.{position_or_len-map, position_or_len-agree, position-none, change_first-past, list_any-place, some-cond}
 
 -- one where it is true
 abbrev pub hit : Bool → ℕ

@@ -11,7 +11,7 @@ use Rattle.tq_model.specs.Moves.{IndexedQueue, item_of, queue_of, on_queue, item
 use Rattle.tq_space.specs.declared.shelf.HeldQueue.{HeldQueue}
 use Rattle.tq_space.specs.Slots.{slot_item, slot_at, item_at, slot_test, slot_count, IsPlainSlot}
 use Rattle.tq_space.specs.Shelf.{indexed_at, key_count, IsListed}
-use Rattle.tq_space.proofs.Places.{position-found, change_first-at, map-remove, find-at}
+use Rattle.tq_model.proofs.Places.{position-found, change_first-at, map-remove, find-at}
 use Rattle.tq_space.proofs.Keys.{hit, all_kept, place-items, first_holding, item_with_id-at, frame, IsRekeyed, counted, same_indices, by_key, count-most}
 
 module _ (slots slots' : List (Option Entry)) (queues : List HeldQueue) (listed : IsListed slots queues) (at : ℕ) (d : HeldQueue)

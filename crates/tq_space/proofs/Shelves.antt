@@ -17,7 +17,7 @@ use Rattle.tq_space.specs.Slots.{slot_at, slot_test, item_at, label_before}
 use Rattle.tq_space.specs.Plain.{IsPlainEntry}
 use Rattle.tq_space.specs.Shelf.{indexed_at, IsListed}
 use Rattle.tq_space.specs.Grown.{HasRoomIn, IsGrown, AreGrown}
-use Rattle.tq_space.proofs.Places.{position-found, position_or_len-map, map-insert}
+use Rattle.tq_model.proofs.Places.{position-found, position_or_len-map, map-insert}
 use Rattle.tq_space.proofs.Keys.{IsRekeyed, hit, by_key}
 use Rattle.tq_space.proofs.Inserted as inserts
 use Rattle.tq_space.proofs.Removed as removals

@@ -9,6 +9,3 @@ mod space;
 pub use plans::{Moves, Plan, Purge, QueueRefusal, Refusal};
 pub use space::{Space, plan_of};
 pub use tq_model::plain_queue;
-
-#[cfg(test)]
-mod tests;

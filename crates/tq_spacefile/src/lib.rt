@@ -13,8 +13,6 @@ mod payload;
 mod place;
 mod recording;
 mod replaying;
-#[cfg(test)]
-mod tests;
 
 pub use fault::{CommitError, FileError, RecordError};
 pub use file::SpaceFile;

@@ -23,6 +23,3 @@ pub use orders::{BadOrder, Criterion, Last, Order};
 pub use paths::{PATH_MOST, Path};
 pub use rooms::{Lack, Resource};
 pub use xids::{BadXId, XId, XaCode};
-
-#[cfg(test)]
-mod tests;

@@ -4,6 +4,7 @@ use std::alloc::{AllocError, Global};
 use std::process::Abort;
 use std::test::Fail;
 use tq_host::{CallKind, FuseHost, MemHost};
+use tq_script::first_line;
 
 // Whether a run over this image is refused as damaged, gives nothing and leaves it; else it is done.
 fn is_refused(rt: &impl Abort, alloc: Global, image: &[u8]) -> Result<bool, AllocError> {
@@ -17,54 +18,224 @@ fn is_refused(rt: &impl Abort, alloc: Global, image: &[u8]) -> Result<bool, Allo
     Ok(false)
 }
 
-// Each address, its byte, and whether a device with that byte there still has a reading.
+// These bytes with others from an address on.
+fn changed(
+    alloc: Global,
+    whole: &[u8],
+    address: usize,
+    bytes: &[u8],
+) -> Result<Vec<u8>, AllocError> {
+    let mut image = Vec::from_slice(alloc, whole)?;
+    for (offset, byte) in bytes.iter().enumerate() {
+        let at = address.wrapping_add(offset);
+        if at < image.len() {
+            image[at] = *byte;
+        }
+    }
+    Ok(image)
+}
+
+fn digit_of(byte: u8) -> u8 {
+    match byte {
+        b'0'..=b'9' => byte - b'0',
+        b'a'..=b'f' => byte - b'a' + 10,
+        _ => 0,
+    }
+}
+
+// The bytes that these hexadecimal digits spell.
+fn bytes_of(alloc: Global, digits: &[u8]) -> Result<Vec<u8>, AllocError> {
+    let mut bytes = Vec::new(alloc);
+    let mut high = None;
+    for byte in digits {
+        let digit = digit_of(*byte);
+        match high {
+            None => high = Some(digit),
+            Some(first) => {
+                bytes.push(first.wrapping_mul(16) | digit)?;
+                high = None;
+            }
+        }
+    }
+    Ok(bytes)
+}
+
+// The address that the first six digits of a row spell.
+fn address_of(row: &[u8]) -> usize {
+    let mut address = 0usize;
+    for byte in row.iter().take(6) {
+        address = address
+            .wrapping_mul(10)
+            .wrapping_add(usize::from(digit_of(*byte)));
+    }
+    address
+}
+
+// Each row of a text that is no comment: an address, the bytes from there on, and whether a device
+// with them still has a reading (+) or is damaged (-).
 fn check_bytes(
     rt: &impl Abort,
     alloc: Global,
     whole: &[u8],
-    rows: &[(usize, u8, bool)],
+    rows: &[u8],
 ) -> Result<(), AllocError> {
-    for (address, byte, is_whole) in rows {
-        let mut image = Vec::from_slice(alloc, whole)?;
-        assert!(rt; *address < image.len());
-        image[*address] = *byte;
-        assert!(rt; is_refused(rt, alloc, &image)? != *is_whole, "at {address}");
+    let mut rest = rows;
+    while let Some((row, behind)) = first_line(rest) {
+        if !row.starts_with(b"#".as_slice()) {
+            let bytes = bytes_of(alloc, row.get(9..).unwrap_or(b""))?;
+            let image = changed(alloc, whole, address_of(row), &bytes)?;
+            let is_damaged = row.get(7) == Some(&b'-');
+            assert!(rt; is_refused(rt, alloc, &image)? == is_damaged, "{row:?}");
+        }
+        rest = behind;
     }
     Ok(())
 }
 
+// What lies at some addresses.
+fn check_written(rt: &impl Abort, image: &[u8], rows: &[(usize, &[u8])]) {
+    for (address, bytes) in rows {
+        let behind = image.get(*address..).unwrap_or(b"");
+        assert!(rt; behind.starts_with(*bytes), "at {address}");
+    }
+}
+
+// Bytes of a device of 64 clusters: the header, the table, the journal.
+const DEVICE: &[u8] = b"# the mark, the device's number, the site, the clusters, what is not read
+000000 - 74
+000007 - 32
+000008 - 01
+000015 - 00
+000018 - 0004
+000018 + 0005
+000018 + 2000
+000018 - 2001
+000020 + 09
+000511 + 09
+# the selectors
+000512 + 0202
+000512 - 01
+000513 - 01
+000512 - ff
+000513 - ff
+000514 + 09
+001023 + 09
+# the table: the mark, the next ordinal, an entry, its extents
+001024 - 58
+001027 - 58
+001028 - 00000000
+001028 + 0fffffff
+001028 - 10000000
+001032 + 09
+001056 - 01
+003456 - 02
+003616 + 09
+# the journal: the mark, the epoch, the decisions, the log
+082944 - 58
+082947 - 58
+082948 - 00000000
+082948 + fffffffe
+082948 - ffffffff
+082952 - 01
+082952 - 02
+082957 + 09
+083968 - 4f
+083969 + 09
+131071 + 09
+";
+
 #[test]
 fn a_damaged_device_is_left_alone(rt: HostRuntime) -> Result<(), Fail> {
     let alloc = rt.alloc();
-    let mut image = made(&rt, alloc, 64)?;
-    let rows = [
-        (0, 0, false),
-        (8, 1, false),
-        (19, 4, false),
-        (512, 2, true),
-        (512, 255, false),
-        (513, 2, true),
-        (513, 255, false),
-        (600, 9, true),
-        (1024, 0, false),
-        (1028, 255, false),
-        (1056, 1, false),
-        (82944, 0, false),
-        (82952, 1, false),
-        (83968, 79, false),
+    let image = made(&rt, alloc, 64)?;
+    let written: [(usize, &[u8]); 3] = [
+        (0, b"TQDEV001\0\0\0\0\0\0\0\x01\0\0\0\x40\0"),
+        (1024, b"TQTB\0\0\0\x01\0"),
+        (82944, b"TQSJ\0\0\0\x01\0"),
     ];
-    check_bytes(&rt, alloc, &image, &rows)?;
-    // the last epoch cannot be raised
-    assert!(rt; image.len() == 131072);
-    for (last, is_last) in [(254u8, false), (255, true)] {
-        image[82948] = 255;
-        image[82949] = 255;
-        image[82950] = 255;
-        image[82951] = last;
-        assert!(rt; is_refused(&rt, alloc, &image)? == is_last);
-    }
+    check_written(&rt, &image, &written);
+    check_bytes(&rt, alloc, &image, DEVICE)?;
     Ok(())
 }
+
+// Bytes of a space S of 64 pages with a queue Q and a message.
+const SPACE_BYTES: &[u8] = b"# the least clusters, the other table
+000018 - 0005
+000018 + 0006
+000512 + 00
+# the entry: used or not, the name, the ordinal, the pages, the extents
+041991 + 03
+042016 + 00
+042016 - 02
+042017 - 00
+042017 - 1041414141414141414141414141414141
+042017 + 0f414141414141414141414141414141
+042018 - 2d
+042017 - 024120
+042151 - 00
+042151 - 02
+042152 - 00000000
+042152 + 0000002e
+042152 - 00000041
+042152 - 0003ff81
+042159 - 00
+042159 - 02
+042160 + 09
+042176 - 01
+# its extent
+044577 - 03
+044577 - 05
+044579 - 01
+044579 - 03
+044580 + 09
+# the first page: the mark, the version, the queues, the messages, the transactions, the memory, the error queue
+131072 - 74
+131079 - 32
+131080 - 0000
+131080 - 0002
+131082 - 0000
+131082 - 0101
+131084 - 0000
+131084 - 2001
+131086 - 0000
+131086 - 0041
+131088 - 01
+131092 + 01000000
+131092 - 01000001
+131096 - 01
+131096 + 0145
+131096 - 012d
+131096 - 0245
+131096 - 1045
+131097 + 01
+# the log: the queue, the message, and what is behind its end
+133120 + 00
+133122 - 01
+133124 - 06
+133125 - 04
+133127 - 01
+133129 - 2d
+133130 + 00
+133137 - 01
+133141 - 00
+133141 - 02
+133145 + 09
+133147 + 01
+133147 - 4f
+133148 + 4f
+# in place of the message: no kind, an index that is too high, one again, a name again, a queue
+133130 - 4f00000005040001014100
+133130 - 4f00000005030004014100
+133130 - 4f00000005030000014100
+133130 - 4f00000005030001015100
+133130 + 4f00000005030003014100
+# one for no queue, one that is not there, one that goes again, a payload that is too long, one of no bytes
+133132 - 00000b01000100
+133130 - 4f0000000902000000010000000700
+133147 + 4f0000000902000000010000000000
+133130 - 4f0001a000
+133130 - 4f0000000000
+";
 
 #[test]
 fn a_damaged_space_is_left_alone(rt: HostRuntime) -> Result<(), Fail> {
@@ -76,43 +247,23 @@ fn a_damaged_space_is_left_alone(rt: HostRuntime) -> Result<(), Fail> {
         ("tpenqueue 1 S Q data=\"a\"", "OK"),
     ];
     let mut image = Sheet::of(alloc, BLANK, &rows)?.check(&rt, alloc, b"")?;
-    let rows = [
-        // the table: the other area, the entry, its extent
-        (512, 0, true),
-        (42016, 0, true),
-        (42016, 2, false),
-        (42017, 0, false),
-        (42018, b'-', false),
-        (42151, 2, false),
-        (42155, 65, false),
-        (44577, 3, false),
-        (44579, 1, false),
-        // the first page
-        (131072, b't', false),
-        (131079, b'2', false),
-        (131083, 0, false),
-        (131085, 0, false),
-        (131087, 0, false),
-        (131088, 1, false),
-        (131096, 1, false),
-        (131097, 1, true),
-        // the log: the queue, the message, and what is behind its end
-        (133120, 0, true),
-        (133122, 1, false),
-        (133124, 6, false),
-        (133125, 4, false),
-        (133127, 1, false),
-        (133129, b'-', false),
-        (133130, 0, true),
-        (133137, 1, false),
-        (133141, 0, false),
-        (133141, 2, false),
-        (133145, 9, true),
-        (133147, 1, true),
-        (133147, 79, false),
-        (133148, 79, true),
+    let written: [(usize, &[u8]); 7] = [
+        (512, b"\x01\0\0"),
+        (41984, b"TQTB\0\0\0\x02"),
+        (42016, b"\x01\x01S\0"),
+        (42148, b"\0\0\0\x01\0\0\0\x40\0\0\0\x01"),
+        (44576, b"\0\x04\0\x02\0"),
+        (
+            131072,
+            b"TQSPROV1\0\x01\0\x04\0\x10\0\x04\0\0\0\0\0\0\0\0\0",
+        ),
+        (
+            133120,
+            b"O\0\0\0\x05\x03\0\0\x01QO\0\0\0\x0c\x01\0\0\0\0\0\x01\0\0\0\0a\0\0",
+        ),
     ];
-    check_bytes(&rt, alloc, &image, &rows)?;
+    check_written(&rt, &image, &written);
+    check_bytes(&rt, alloc, &image, SPACE_BYTES)?;
     // its last cluster is not whole
     assert!(rt; image.len() == 196608);
     image.truncate(196607);

@@ -149,14 +149,24 @@ fn a_boot_brings_the_site_back(rt: HostRuntime) -> Result<(), Fail> {
 #[test]
 fn no_boot_raises_the_last_epoch(rt: HostRuntime) -> Result<(), Fail> {
     let alloc = rt.alloc();
-    let mut image = made(&rt, alloc, 64)?;
-    assert!(rt; image.len() == 131072);
+    let rows = [
+        ("crdl 0 64", "OK clusters=64 free=60"),
+        SPACE,
+        ("qcreate S Q", "OK"),
+        ("tpenqueue 1 S Q data=\"a\"", "OK"),
+    ];
+    let mut image = Sheet::of(alloc, BLANK, &rows)?.check(&rt, alloc, b"")?;
+    assert!(rt; image.len() == 196608);
     image[82948] = 255;
     image[82949] = 255;
     image[82950] = 255;
     image[82951] = 254;
     let rows = [
-        ("lidl 0", "OK clusters=64 free=60 spaces=0"),
+        ("tpdequeue 1 S Q", "OK data=\"a\" urcode=0"),
+        (
+            "tpenqueue 1 S Q flags=TPQMSGID data=\"b\"",
+            "OK msgid=1.8.4294967295.0",
+        ),
         ("boot", "DAMAGED 0"),
         ("lidl 0", "TPESYSTEM"),
         ("# a comment", "OK"),
@@ -164,7 +174,7 @@ fn no_boot_raises_the_last_epoch(rt: HostRuntime) -> Result<(), Fail> {
         ("boot", "DAMAGED 0"),
         ("tpdequeue 1 S Q", "TPESYSTEM"),
     ];
-    let ready = "READY site=1 epoch=4294967295 spaces=0 indoubt=0";
+    let ready = "READY site=1 epoch=4294967295 spaces=1 indoubt=0";
     Sheet::of(alloc, ready, &rows)?.check(&rt, alloc, &image)?;
     Ok(())
 }

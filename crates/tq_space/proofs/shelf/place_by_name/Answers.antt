@@ -1,7 +1,7 @@
 use Rattle.std.proofs.Common.{◌∙◌, ap, ℕ, Option, length, unwrap_or}
 use Rattle.tq_model.specs.Space.{name_before}
 use Rattle.tq_space.specs.declared.shelf.HeldQueue.{HeldQueue}
-use Rattle.tq_space.proofs.Places.{position-or}
+use Rattle.tq_model.proofs.Places.{position-or}
 use Rattle.tq_space.proofs.shelf.place_by_name.Goals as goal
 
 pub returns : goal.returns

@@ -1,6 +1,6 @@
 use Rattle.std.proofs.Common.{◌∙◌, ap, ℕ, Option, length, unwrap_or}
 use Rattle.tq_space.specs.Slots.{slot_test, slot_at, label_before}
-use Rattle.tq_space.proofs.Places.{position-or}
+use Rattle.tq_model.proofs.Places.{position-or}
 use Rattle.tq_space.proofs.shelf.place_for.Goals as goal
 
 pub returns : goal.returns

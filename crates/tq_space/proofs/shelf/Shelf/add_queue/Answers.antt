@@ -5,7 +5,7 @@ use Rattle.tq_model.specs.Moves.{queue_added, has_index}
 use Rattle.tq_space.specs.declared.shelf.HeldQueue.{HeldQueue}
 use Rattle.tq_space.specs.State.{ShelfValue}
 use Rattle.tq_space.specs.Shelf.{indexed_at}
-use Rattle.tq_space.proofs.Places.{position_or_len-within}
+use Rattle.tq_model.proofs.Places.{position_or_len-within}
 use Rattle.tq_space.proofs.Shelves.{added_listed, added_seen, room_added}
 use Rattle.std.proofs.Common.{false}
 use Rattle.tq_space.specs.Shelf.{IsListed}

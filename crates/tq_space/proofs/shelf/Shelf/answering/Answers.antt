@@ -9,7 +9,7 @@ use Rattle.tq_space.specs.Slots.{slot_at, slot_test}
 use Rattle.tq_space.specs.Shelf.{indexed_at}
 use Rattle.tq_space.specs.Reads.{indexed_named}
 use Rattle.tq_space.specs.Reading.{answer_in}
-use Rattle.tq_space.proofs.Places.{position-found}
+use Rattle.tq_model.proofs.Places.{position-found}
 use Rattle.tq_space.proofs.Found.{named_none, named_at, answer_none, answer_at}
 use Rattle.tq_space.proofs.shelf.Shelf.answering.Goals as goal
 

@@ -4,7 +4,7 @@ use Rattle.tq_model.specs.Space.{Queue, change_first}
 use Rattle.tq_model.specs.Moves.{IndexedQueue, queue_of, has_index, on_queue}
 use Rattle.tq_space.specs.declared.shelf.HeldQueue.{HeldQueue}
 use Rattle.tq_space.specs.State.{ShelfValue}
-use Rattle.tq_space.proofs.Places.{position-found}
+use Rattle.tq_model.proofs.Places.{position-found}
 use Rattle.tq_space.proofs.Shelves.{room_set, room_at}
 use Rattle.tq_space.proofs.Definitions.{changed_listed, changed_seen, changed_nothing}
 use Rattle.tq_space.proofs.shelf.Shelf.change_queue.Goals as goal

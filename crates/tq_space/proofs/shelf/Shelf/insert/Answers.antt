@@ -4,7 +4,7 @@ use Rattle.tq_model.specs.Moves.{item_of, item_inserted, has_index}
 use Rattle.tq_space.specs.declared.shelf.HeldQueue.{HeldQueue}
 use Rattle.tq_space.specs.State.{ShelfValue}
 use Rattle.tq_space.specs.Slots.{slot_at, slot_test, label_before}
-use Rattle.tq_space.proofs.Places.{position_or_len-within, position-found}
+use Rattle.tq_model.proofs.Places.{position_or_len-within, position-found}
 use Rattle.tq_space.proofs.Keys.{IsRekeyed, index_there}
 use Rattle.tq_space.proofs.Shelves.{inserted_listed, inserted_seen, room_less, room_set, room_at}
 use Rattle.tq_space.proofs.Spares.{spares_less}

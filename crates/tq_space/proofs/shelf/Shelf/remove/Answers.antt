@@ -6,7 +6,7 @@ use Rattle.tq_model.specs.Moves.{item_of, item_removed, item_with_id, IndexedQue
 use Rattle.tq_space.specs.declared.shelf.HeldQueue.{HeldQueue}
 use Rattle.tq_space.specs.State.{ShelfValue}
 use Rattle.tq_space.specs.Slots.{slot_at, slot_test}
-use Rattle.tq_space.proofs.Places.{position-found}
+use Rattle.tq_model.proofs.Places.{position-found}
 use Rattle.tq_space.proofs.Keys.{IsRekeyed, nothing_held, no_item_held}
 use Rattle.tq_space.proofs.Shelves.{removed_listed, removed_seen, removed_item, room_set, room_at, position-passes, slab_less}
 use Rattle.tq_space.proofs.shelf.Shelf.remove.Goals as goal

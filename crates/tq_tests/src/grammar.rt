@@ -1,158 +1,264 @@
-use crate::{first_line, parse};
 use std::alloc::{AllocError, Global};
 use std::test::Fail;
 use tq_model::{
     CallRequest, Creation, DequeueWords, DeviceRequest, EnqueueWords, Flag, Flags, QueueCreation,
     Request, SpaceCreation, SpaceRequest, name_in,
 };
+use tq_script::{first_line, parse};
 use tq_types::Body;
 
-/// Lines that spell no request, with the column of what does not fit.
-const MISFITS: &[(&[u8], u64)] = &[
-    // the verb
-    (b"\"#\"", 1),
-    (b"LIDL 1", 1),
-    (b"Boot", 1),
-    (b" boots", 2),
-    (b"boot=1", 1),
-    (b"boot\t", 1),
-    (b"lid 1", 1),
-    (b"lidls 1", 1),
-    (b"  list 1", 3),
-    (b"lidl\t1", 1),
-    (b"\x00", 1),
-    (b"\xff\xfe 1", 1),
-    (b"lidl\" \"1", 1),
-    (b"\"lidl 1\" 8", 1),
-    // a positional word
-    (b"lidl 8", 6),
-    (b"  lidl   8", 10),
-    (b"lidl 1\t", 6),
-    (b"lidl 1\r", 6),
-    (b"lidl \x001", 6),
-    (b"lidl \xb1", 6),
-    (b"lidl \"1\"", 6),
-    (b"lidl #", 6),
-    (b"crdl 8 4", 6),
-    (b"crdl -1 4", 6),
-    (b"crdl +1 4", 6),
-    (b"crdl 0x1 4", 6),
-    (b"crdl 0 +4", 8),
-    (b"crdl 0 4,", 8),
-    (b"crdl 0 \"4 site=1", 8),
-    (b"crdl 0 \"\\\"\" 4", 8),
-    (b"crdl 0 18446744073709551616", 8),
-    (b"crdl 0 99999999999999999999", 8),
-    (b"crdl 0 000000000000000000004", 8),
-    (b"crdl 000000000000000000000 4", 6),
-    (b"crdl 0 site=1", 8),
-    (b"crdl site=1 0 4", 6),
-    // a keyed word
-    (b"boot 1", 6),
-    (b"boot x", 6),
-    (b"  boot  x=1 y", 9),
-    (b"boot site=1", 6),
-    (b"boot #", 6),
-    (b"lidl 1 2", 8),
-    (b"lidl 1 site=1", 8),
-    (b"lidl 1 \"a\\\" b\"", 8),
-    (b"lidl 1 # 2", 8),
-    (b"crdl 0 4 5", 10),
-    (b"crdl 0 4 site", 10),
-    (b"crdl 0 4 =1", 10),
-    (b"crdl 0 4 site=", 10),
-    (b"crdl 0 4 site=+1", 10),
-    (b"crdl 0 4 site=1=1", 10),
-    (b"crdl 0 4 site=18446744073709551616", 10),
-    (b"crdl 0 4 Site=1", 10),
-    (b"crdl 0 4 size=1 site=x", 10),
-    (b"crdl 0 4 site=x size=1", 10),
-    (b"crdl 0 4 site=1 size=1", 17),
-    (b"crdl 0 4 site=1 site=2", 17),
-    (b"crdl 0 4  site=1   site=x ", 20),
-    // a name
-    (b"qcreate sixteenbytesname Q", 9),
-    (b"qcreate SP sixteenbytesname", 12),
-    (b"qcreate -SP Q", 9),
-    (b"qcreate .SP Q", 9),
-    (b"qcreate S+P Q", 9),
-    (b"qcreate \"SP\" Q", 9),
-    (b"qcreate dev=0 Q", 9),
-    (b"qcreate SP Q R", 14),
-    (b"qcreate SP Q error=Q", 14),
-    (b"qspacecreate - dev=0", 14),
-    // a session
-    (b"tpenqueue 0 SP Q data=\"\"", 11),
-    (b"tpenqueue 33 SP Q data=\"\"", 11),
-    (b"tpdequeue 0 SP Q", 11),
-    (b"tpdequeue  33  SP  Q", 12),
-    (b"tpdequeue SP Q 1", 11),
-    // a key of a space
-    (b"qspacecreate SP dev=8", 17),
-    (b"qspacecreate SP pages=-1", 17),
-    (b"qspacecreate SP site=1", 17),
-    (b"qspacecreate SP dev=0 error=-x", 23),
-    (b"qspacecreate SP dev=0 error=--", 23),
-    (b"qspacecreate SP dev=0 error=", 23),
-    (b"qspacecreate SP dev=0 error=sixteenbytesname", 23),
-    (b"qspacecreate SP dev=0 memory=1 dev=0", 32),
-    (
-        b"qspacecreate SP dev=0 pages=9 queues=1 trans=1 msgs=1 error=- memory=0 error=-",
-        72,
-    ),
-    // the names of flags
-    (b"tpdequeue 1 SP Q flags=", 18),
-    (b"tpdequeue 1 SP Q flags=tpqmsgid", 18),
-    (b"tpdequeue 1 SP Q flags=TPQMSGIDS", 18),
-    (b"tpdequeue 1 SP Q flags=TPQPEEK", 18),
-    (b"tpdequeue 1 SP Q flags=TPQMSGID|", 18),
-    (b"tpdequeue 1 SP Q flags=|TPQMSGID", 18),
-    (b"tpdequeue 1 SP Q flags=TPQMSGID||TPNOFLAGS", 18),
-    (b"tpdequeue 1 SP Q flags=TPQMSGID,TPNOFLAGS", 18),
-    (b"tpdequeue 1 SP Q flags=TPQMSGID|TPQMSGID", 18),
-    (b"tpdequeue 1 SP Q flags=TPNOFLAGS|TPQMSGID|TPNOFLAGS", 18),
-    (b"tpdequeue 1 SP Q flags=TPQMSGID flags=TPQMSGID", 33),
-    (b"tpdequeue 1 SP Q data=\"\"", 18),
-    // a text
-    (b"tpenqueue 1 SP Q data=", 18),
-    (b"tpenqueue 1 SP Q data=a", 18),
-    (b"tpenqueue 1 SP Q data=\"", 18),
-    (b"tpenqueue 1 SP Q data=\"a", 18),
-    (b"tpenqueue 1 SP Q data=\"a\\\"", 18),
-    (b"tpenqueue 1 SP Q data=\"a\"b", 18),
-    (b"tpenqueue 1 SP Q data=\"a\"\"b\"", 18),
-    (b"tpenqueue 1 SP Q data=\"\\x\"", 18),
-    (b"tpenqueue 1 SP Q data=\"\\4\"", 18),
-    (b"tpenqueue 1 SP Q data=\"\\4g\"", 18),
-    (b"tpenqueue 1 SP Q data=\"\\g4\"", 18),
-    (b"tpenqueue 1 SP Q data=\"\\n\"", 18),
-    (b"tpenqueue 1 SP Q data=\"\t\"", 18),
-    (b"tpenqueue 1 SP Q data=\"\x7f\"", 18),
-    (b"tpenqueue 1 SP Q data=\"\xff\"", 18),
-    (b"tpenqueue 1 SP Q data=\"a b\" \"c d\"", 29),
-    (b"tpenqueue 1 SP Q data=\"a b\" data=\"\"", 29),
-    // a missing word
-    (b"lidl", 5),
-    (b"crdl", 5),
-    (b"crdl ", 6),
-    (b"crdl 0", 7),
-    (b" crdl 0  ", 10),
-    (b"qspacecreate", 13),
-    (b"qspacecreate SP", 16),
-    (
-        b"qspacecreate SP dev=0 pages=9 queues=1 trans=1 msgs=1 error=-",
-        62,
-    ),
-    (
-        b"qspacecreate SP pages=9 queues=1 trans=1 msgs=1 error=- memory=0 ",
-        66,
-    ),
-    (b"qcreate SP", 11),
-    (b"tpenqueue 1 SP", 15),
-    (b"tpenqueue 1 SP Q", 17),
-    (b"tpenqueue 1 SP Q flags=TPQMSGID", 32),
-    (b"tpdequeue 1 SP", 15),
-];
+/// Lines that spell no request, each above a mark of the column of what does not fit.
+const MISFITS: &[u8] = b"\"#\"
+^
+LIDL 1
+^
+Boot
+^
+ boots
+ ^
+boot=1
+^
+boot\t
+^
+lid 1
+^
+lidls 1
+^
+  list 1
+  ^
+lidl\t1
+^
+\x00
+^
+\xff\xfe 1
+^
+lidl\" \"1
+^
+\"lidl 1\" 8
+^
+lidl 8
+     ^
+  lidl   8
+         ^
+lidl 1\t
+     ^
+lidl 1\r
+     ^
+lidl \x001
+     ^
+lidl \xb1
+     ^
+lidl \"1\"
+     ^
+lidl #
+     ^
+crdl 8 4
+     ^
+crdl -1 4
+     ^
+crdl +1 4
+     ^
+crdl 0x1 4
+     ^
+crdl 0 +4
+       ^
+crdl 0 4,
+       ^
+crdl 0 \"4 site=1
+       ^
+crdl 0 \"\\\"\" 4
+       ^
+crdl 0 18446744073709551616
+       ^
+crdl 0 99999999999999999999
+       ^
+crdl 0 000000000000000000004
+       ^
+crdl 000000000000000000000 4
+     ^
+crdl 0 site=1
+       ^
+crdl site=1 0 4
+     ^
+boot 1
+     ^
+boot x
+     ^
+  boot  x=1 y
+        ^
+boot site=1
+     ^
+boot #
+     ^
+lidl 1 2
+       ^
+lidl 1 site=1
+       ^
+lidl 1 \"a\\\" b\"
+       ^
+lidl 1 # 2
+       ^
+crdl 0 4 5
+         ^
+crdl 0 4 site
+         ^
+crdl 0 4 =1
+         ^
+crdl 0 4 site=
+         ^
+crdl 0 4 site=+1
+         ^
+crdl 0 4 site=1=1
+         ^
+crdl 0 4 site=18446744073709551616
+         ^
+crdl 0 4 Site=1
+         ^
+crdl 0 4 size=1 site=x
+         ^
+crdl 0 4 site=x size=1
+         ^
+crdl 0 4 site=1 size=1
+                ^
+crdl 0 4 site=1 site=2
+                ^
+crdl 0 4  site=1   site=x 
+                   ^
+qcreate sixteenbytesname Q
+        ^
+qcreate SP sixteenbytesname
+           ^
+qcreate -SP Q
+        ^
+qcreate .SP Q
+        ^
+qcreate S+P Q
+        ^
+qcreate \"SP\" Q
+        ^
+qcreate dev=0 Q
+        ^
+qcreate SP Q R
+             ^
+qcreate SP Q error=Q
+             ^
+qspacecreate - dev=0
+             ^
+tpenqueue 0 SP Q data=\"\"
+          ^
+tpenqueue 33 SP Q data=\"\"
+          ^
+tpdequeue 0 SP Q
+          ^
+tpdequeue  33  SP  Q
+           ^
+tpdequeue SP Q 1
+          ^
+qspacecreate SP dev=8
+                ^
+qspacecreate SP pages=-1
+                ^
+qspacecreate SP site=1
+                ^
+qspacecreate SP dev=0 error=-x
+                      ^
+qspacecreate SP dev=0 error=--
+                      ^
+qspacecreate SP dev=0 error=
+                      ^
+qspacecreate SP dev=0 error=sixteenbytesname
+                      ^
+qspacecreate SP dev=0 memory=1 dev=0
+                               ^
+qspacecreate SP dev=0 pages=9 queues=1 trans=1 msgs=1 error=- memory=0 error=-
+                                                                       ^
+tpdequeue 1 SP Q flags=
+                 ^
+tpdequeue 1 SP Q flags=tpqmsgid
+                 ^
+tpdequeue 1 SP Q flags=TPQMSGIDS
+                 ^
+tpdequeue 1 SP Q flags=TPQPEEK
+                 ^
+tpdequeue 1 SP Q flags=TPQMSGID|
+                 ^
+tpdequeue 1 SP Q flags=|TPQMSGID
+                 ^
+tpdequeue 1 SP Q flags=TPQMSGID||TPNOFLAGS
+                 ^
+tpdequeue 1 SP Q flags=TPQMSGID,TPNOFLAGS
+                 ^
+tpdequeue 1 SP Q flags=TPQMSGID|TPQMSGID
+                 ^
+tpdequeue 1 SP Q flags=TPNOFLAGS|TPQMSGID|TPNOFLAGS
+                 ^
+tpdequeue 1 SP Q flags=TPQMSGID flags=TPQMSGID
+                                ^
+tpdequeue 1 SP Q data=\"\"
+                 ^
+tpenqueue 1 SP Q data=
+                 ^
+tpenqueue 1 SP Q data=a
+                 ^
+tpenqueue 1 SP Q data=\"
+                 ^
+tpenqueue 1 SP Q data=\"a
+                 ^
+tpenqueue 1 SP Q data=\"a\\\"
+                 ^
+tpenqueue 1 SP Q data=\"a\"b
+                 ^
+tpenqueue 1 SP Q data=\"a\"\"b\"
+                 ^
+tpenqueue 1 SP Q data=\"\\x\"
+                 ^
+tpenqueue 1 SP Q data=\"\\4\"
+                 ^
+tpenqueue 1 SP Q data=\"\\4g\"
+                 ^
+tpenqueue 1 SP Q data=\"\\g4\"
+                 ^
+tpenqueue 1 SP Q data=\"\\n\"
+                 ^
+tpenqueue 1 SP Q data=\"\t\"
+                 ^
+tpenqueue 1 SP Q data=\"\x7f\"
+                 ^
+tpenqueue 1 SP Q data=\"\xff\"
+                 ^
+tpenqueue 1 SP Q data=\"a b\" \"c d\"
+                            ^
+tpenqueue 1 SP Q data=\"a b\" data=\"\"
+                            ^
+lidl
+    ^
+crdl
+    ^
+crdl 
+     ^
+crdl 0
+      ^
+ crdl 0  
+         ^
+qspacecreate
+            ^
+qspacecreate SP
+               ^
+qspacecreate SP dev=0 pages=9 queues=1 trans=1 msgs=1 error=-
+                                                             ^
+qspacecreate SP pages=9 queues=1 trans=1 msgs=1 error=- memory=0 
+                                                                 ^
+qcreate SP
+          ^
+tpenqueue 1 SP
+              ^
+tpenqueue 1 SP Q
+                ^
+tpenqueue 1 SP Q flags=TPQMSGID
+                               ^
+tpdequeue 1 SP
+              ^
+";
 
 const COMMENTS: &[&[u8]] = &[
     b"",
@@ -211,12 +317,16 @@ const CREATIONS: &[(&[u8], Creation)] = &[
 
 #[test]
 fn misfits(rt: HostRuntime) -> Result<(), Fail> {
-    for (line, column) in MISFITS {
+    let mut rest = MISFITS;
+    while let Some((line, behind)) = first_line(rest) {
+        let (mark, behind) = first_line(behind).ok_or("a mark")?;
+        let column = mark.len() as u64;
         assert_eq!(rt;
             parse(rt.alloc(), line)?,
-            Request::Bad(*column),
+            Request::Bad(column),
             "at {line:?}"
         );
+        rest = behind;
     }
     Ok(())
 }

@@ -6,7 +6,7 @@ use Rattle.tq_model.specs.declared.space.SpaceMove.TheVariants.{PutQueue}
 use Rattle.tq_model.specs.Space.{change_first}
 use Rattle.tq_model.specs.Moves.{IndexedQueue, IndexedSpace, has_index, on_queue, moved, queue_of, queue_put, queue_added, comes_before}
 use Rattle.tq_space.specs.Plain.{HasNoEntries, CanDrop}
-use Rattle.tq_space.proofs.tests.put_and_drop.Goals as goal
+use Rattle.tq_tests.proofs.spaces.put_and_drop.Goals as goal
 
 find-insert : {X : Type 0} (p : X → Bool) (xs : List X) (n : ℕ) (x : X) → p x ≡ true → list_any p xs ≡ false → find p (insert xs n x) ≡ Some x
 find-insert p [] zero x here none = ap (λ (b : Bool). cond b (Some x) (find p [])) here

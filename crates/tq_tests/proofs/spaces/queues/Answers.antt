@@ -8,7 +8,7 @@ use Rattle.tq_model.specs.Moves.{IndexedQueue, IndexedSpace, purged_of}
 use Rattle.tq_model.specs.Room.{pages_at}
 use Rattle.tq_model.specs.SpaceForm.{empty_space}
 use Rattle.tq_space.specs.Plain.{IsPlainEntry, CanMoveBy}
-use Rattle.tq_space.proofs.tests.queues.Goals as goal
+use Rattle.tq_tests.proofs.spaces.queues.Goals as goal
 
 -- a queue and its first entry, in a space without queues
 first_moves : (s : IndexedSpace) (index : ℕ) (d : QueueDef) (e : Entry) → s.queues ≡ [] → 1 ≤ s.limits.messages → IsPlainEntry e → e.queue ≡ index

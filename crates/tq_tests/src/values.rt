@@ -1,6 +1,10 @@
-use super::*;
 use std::cmp::Ordering;
 use std::test::Fail;
+use tq_types::{
+    Arrival, AskedQos, BadMoment, BadName, BadOrder, BadPriority, BadXId, Body, CorrId, Criterion,
+    Entry, Label, Last, Mark, Message, Moment, MsgId, Name, Order, Path, Priority, Qos, Root, XId,
+    compare,
+};
 
 #[test]
 fn names(rt: HostRuntime) -> Result<(), Fail> {

@@ -1,6 +1,6 @@
-use crate::FileHost;
 use std::test::Fail;
 use std::{env, fs, process};
+use tq_files::FileHost;
 use tq_host::{Failed, Host};
 
 // What one attached device reads and does, over a real file.

@@ -1,8 +1,8 @@
 ghost use Rattle.std.specs.Prelude.{◌<◌};
 
-use crate::{CallKind, FuseHost, Host, MemHost};
 use std::alloc::Global;
 use std::test::Fail;
+use tq_host::{CallKind, FuseHost, Host, MemHost};
 
 const KINDS: [CallKind; 8] = [
     CallKind::Attach,

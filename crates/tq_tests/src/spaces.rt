@@ -3,7 +3,6 @@ ghost use Rattle.tq_model.specs.Moves.{moved};
 ghost use Rattle.tq_model.specs.Room.{pages_at};
 ghost use Rattle.tq_space.specs.Plain.{CanMove, IsPlainChange, IsPlainEntry};
 
-use crate::{Moves, Plan, Purge, QueueRefusal, Refusal, Space};
 use std::alloc::{AllocError, Global};
 use std::process::Abort;
 use std::test::Fail;
@@ -11,6 +10,7 @@ use tq_model::{
     CallAnswer, Change, Delivery, DequeueAsk, DequeueCall, EnqueueAsk, EnqueueCall, Flag, Flags,
     Place, QueueDef, Shape, SpaceMove,
 };
+use tq_space::{Moves, Plan, Purge, Refusal, Space};
 use tq_types::{
     Arrival, AskedQos, Body, Entry, Label, Lack, Last, Mark, Message, MsgId, Name, Order, Path,
     Qos, Resource, Root,
@@ -450,88 +450,5 @@ fn queues(rt: HostRuntime) -> Result<(), Fail> {
     assert_eq!(rt; space.queue_index(&b), Some(3));
     make(alloc, &mut space, SpaceMove::Remove(id(0)))?;
     assert_eq!(rt; dequeue(alloc, &mut space, b)?, Some(CallAnswer::NoMessage));
-    Ok(())
-}
-
-/// Makes a queue of that name, or tells why it is not made.
-fn create_queue(
-    alloc: Global,
-    space: &mut Space,
-    name: &Name,
-) -> Result<Option<QueueRefusal>, AllocError> {
-    match space.plan_queue(alloc, name) {
-        Ok(plan) => {
-            space.reserve(&plan)?;
-            space.apply(plan);
-            Ok(None)
-        }
-        Err(refusal) => Ok(Some(refusal)),
-    }
-}
-
-/// The creation of a queue of that name, of one letter, is answered so, and then the queue of the
-/// name has that index.
-fn created(
-    rt: &impl Abort,
-    alloc: Global,
-    space: &mut Space,
-    letter: u8,
-    refusal: Option<QueueRefusal>,
-    index: Option<u16>,
-) -> Result<(), Fail> {
-    let name = Name::new(&[letter])?;
-    assert_eq!(rt; create_queue(alloc, space, &name)?, refusal);
-    assert_eq!(rt; space.queue_index(&name), index);
-    assert_eq!(rt; space.has_queue_named(&name), index.is_some());
-    Ok(())
-}
-
-#[test]
-fn created_queues(rt: HostRuntime) -> Result<(), Fail> {
-    let alloc = rt.alloc();
-    let def = definition(Name::new(b"C")?, Order::new(&[], Last::Fifo)?);
-    let mut space = Space::new(alloc, &shape(64, 2), 1, 8);
-    make(alloc, &mut space, SpaceMove::PutQueue(1, def))?;
-    let rows = [
-        (b'C', Some(QueueRefusal::Taken), Some(1)),
-        (b'D', None, Some(0)),
-        (b'A', None, Some(2)),
-        (b'D', Some(QueueRefusal::Taken), Some(0)),
-        (b'B', None, Some(3)),
-        (b'E', Some(QueueRefusal::QueueFull(4)), None),
-        (b'A', Some(QueueRefusal::Taken), Some(2)),
-    ];
-    for (letter, refusal, index) in rows {
-        created(&rt, alloc, &mut space, letter, refusal, index)?;
-    }
-    Ok(())
-}
-
-/// A body of so many bytes has room, and a longer one has none.
-fn filled_by(rt: &impl Abort, space: &Space, most: usize)
-    requires { most ≤ 65536 }
-{
-    assert_eq!(rt; space.has_room_for(most), true);
-    assert_eq!(rt; space.has_room_for(most + 1), false);
-}
-
-fn held(rt: &impl Abort, space: &Space, epoch: u32, number: u32, wanted: bool) {
-    let arrival = Arrival { epoch, number };
-    assert_eq!(rt; space.holds_arrival(&arrival), wanted);
-}
-
-#[test]
-fn room_and_arrivals(rt: HostRuntime) -> Result<(), Fail> {
-    let alloc = rt.alloc();
-    let name = Name::new(b"Q")?;
-    let mut space = Space::new(alloc, &shape(43, 2), 1, 8);
-    create_queue(alloc, &mut space, &name)?;
-    filled_by(&rt, &space, 1776);
-    enqueues(&rt, alloc, &mut space, name, (b"x", 5), granted(5))?;
-    filled_by(&rt, &space, 760);
-    held(&rt, &space, 1, 5, true);
-    held(&rt, &space, 1, 4, false);
-    held(&rt, &space, 2, 5, false);
-    assert_eq!(rt; space.number(), 8);
     Ok(())
 }
