@@ -1,4 +1,5 @@
--- A run whose devices may fail: the states of the machine, as a function of what the host tells at the end of the run.
+-- A run whose devices may fail: the states of the machine, as a function of what the host tells at the end of the run and of
+-- the steps in which a device failed.
 use Rattle.std.specs.Prelude.{◌≡◌, ℕ, ◌+◌, ◌-◌, ◌==◌, nat_lt, Bool, true, false, if◌then◌else◌, List, [], ◌∷◌, ◌++◌, length, get_or, take, filter, map, Option, Some, None, Any}
 use Rattle.tq_model.specs.declared.answer.Answer.{Answer}
 use Rattle.tq_model.specs.declared.answer.Answer.TheVariants.{Done, Syntax, SystemError, TooLong as TooLongLine}
@@ -47,12 +48,12 @@ pub record Turn : Type 0 where
 abbrev pub boot_turn : Site → Turn
 boot_turn s = let outcome = boot s in record { condition = if can_boot s then Up outcome.site else Down (outcome.site ∷ []); answer = outcome.answer }
 
--- Up, and the count does not rise: the machine's own step.
+-- Up, and no device fails: the machine's own step.
 abbrev pub steady_turn : Site → Request → Turn
 steady_turn s Boot = boot_turn s
 steady_turn s request = let outcome = step s request in record { condition = Up outcome.site; answer = outcome.answer }
 
--- Up, and the count rises: down, before or after the step.
+-- Up, and a device fails: down, before or after the step.
 abbrev pub failing_turn : Site → Request → Turn
 failing_turn s request = record { condition = Down (durable s ∷ durable (step s request).site ∷ []); answer = SystemError }
 
@@ -73,17 +74,21 @@ down_answer (Space request) = SystemError
 down_answer (Call request) = SystemError
 
 abbrev pub down_turn : Bool → Option Site → List Site → Request → Turn
-down_turn rose found sites Boot = reboot_turn rose found sites
-down_turn rose found sites request = record { condition = Down sites; answer = down_answer request }
+down_turn failed found sites Boot = reboot_turn failed found sites
+down_turn failed found sites request = record { condition = Down sites; answer = down_answer request }
 
--- The turn of a request, from whether the device count rises in it and the site for which the devices stood before it.
+-- The turn of a request, from whether a device fails in it and the site for which the devices stood before it.
 abbrev pub turn_at : Bool → Option Site → Condition → Request → Turn
-turn_at rose found (Up s) request = if rose then failing_turn s request else steady_turn s request
-turn_at rose found (Down sites) request = down_turn rose found sites request
+turn_at failed found (Up s) request = if failed then failing_turn s request else steady_turn s request
+turn_at failed found (Down sites) request = down_turn failed found sites request
+
+-- whether a device failed in a step, each step by the byte of the output at which its text begins
+abbrev pub Failures : Type 0
+Failures = ℕ → Bool
 
 -- the turn of a request whose text begins at this byte of the output
-abbrev pub turn : Trace → ℕ → Condition → Request → Turn
-turn trace at condition request = turn_at (rose_at trace at) (found_at trace at) condition request
+abbrev pub turn : Trace → Failures → ℕ → Condition → Request → Turn
+turn trace failed at condition request = turn_at (failed at) (found_at trace at) condition request
 
 -- how far a run is
 pub record Progress : Type 0 where
@@ -91,20 +96,20 @@ pub record Progress : Type 0 where
   pub text : List ℕ  -- the texts of all answers so far
   pub line : ℕ  -- the number of the next line
 
-abbrev pub advance : Trace → Progress → Request → Progress
-advance trace p request = let t = turn trace (length p.text) p.condition request in record { condition = t.condition; text = p.text ++ line_text p.line t.answer; line = p.line + 1 }
+abbrev pub advance : Trace → Failures → Progress → Request → Progress
+advance trace failed p request = let t = turn trace failed (length p.text) p.condition request in record { condition = t.condition; text = p.text ++ line_text p.line t.answer; line = p.line + 1 }
 
-abbrev pub after : Trace → Progress → List Request → Progress
-after trace p [] = p
-after trace p (request ∷ requests) = after trace (advance trace p request) requests
+abbrev pub after : Trace → Failures → Progress → List Request → Progress
+after trace failed p [] = p
+after trace failed p (request ∷ requests) = after trace failed (advance trace failed p request) requests
 
 -- before line 0, which is a boot of the site that is found
 abbrev pub beginning : Site → Progress
 beginning s = record { condition = Up s; text = []; line = 0 }
 
 -- The machine after the first k steps over these requests, the boot of line 0 being the first.
-abbrev pub machine_after : Trace → Site → List Request → ℕ → Progress
-machine_after trace s requests k = after trace (beginning s) (take k (Boot ∷ requests))
+abbrev pub machine_after : Trace → Failures → Site → List Request → ℕ → Progress
+machine_after trace failed s requests k = after trace failed (beginning s) (take k (Boot ∷ requests))
 
 -- Images, one per device, stand for a site.
 abbrev pub StandFor : ℕ → (ℕ → List ℕ) → Site → Type 0

@@ -1,10 +1,10 @@
 -- Line 0: a device is attached, and then there is a boot of what it stands for.
-use Rattle.std.proofs.Common.{◌≡◌, inl, inr, ⊎_elim, ◌<◌, ℕ, zero, suc, List, [], ◌∷◌, ◌++◌, Option, Some, None, Bool, true, false, cond, Result, refl, sym, ◌∙◌, ap, subst, arith, length, append_assoc}
-use Rattle.std.specs.Prelude.{nat_lt, replicate, All, Any}
+use Rattle.std.proofs.Common.{◌≡◌, inl, inr, ⊎_elim, ◌<◌, ℕ, zero, suc, List, [], ◌∷◌, ◌++◌, Option, Some, None, Bool, true, false, cond, Result, Ok, Err, refl, sym, ◌∙◌, ap, subst, arith, length, append_assoc}
+use Rattle.std.specs.Prelude.{replicate, All, Any}
 use Rattle.std.proofs.lemmas.List.{append-nil, append_cancel_left}
 use Rattle.std.specs.List.{slice_index_or}
 use Rattle.tq_host.specs.View.{View, Stamp, Streams, IsSettled}
-use Rattle.tq_host.specs.Calls.{IsDeviceCall, IsStill, IsGiven, IsGiving}
+use Rattle.tq_host.specs.Calls.{HasCause, HasCauseOf, IsDeviceCall, IsStill, IsGiven, IsGiving}
 use Rattle.tq_host.specs.declared.host.Failed.{Failed}
 use Rattle.tq_host.specs.Within.{Came, Within, Ran}
 use Rattle.tq_host.proofs.Within.{weaker, in_a_row}
@@ -13,22 +13,25 @@ use Rattle.tq_model.specs.Site.{Site, durable}
 use Rattle.tq_model.specs.Step.{step, booted, can_boot, ready}
 use Rattle.tq_model.specs.Text.{line_text}
 use Rattle.tq_model.specs.Reading.{site_found}
-use Rattle.tq_model.specs.Faulty.{Up, Turn, failing_turn, boot_turn, rose_at, turn_at}
+use Rattle.tq_model.specs.Faulty.{Up, Failures, Turn, failing_turn, boot_turn, rose_at, turn_at}
 use Rattle.tq_device.specs.Content.{IsAnyStep}
 use Rattle.tq_run.specs.declared.manager.Manager.{Manager}
 use Rattle.tq_run.specs.declared.state.State.TheVariants as states
+use Rattle.tq_run.specs.declared.status.Stop.{Stop}
+use Rattle.tq_run.specs.declared.status.Stop.TheVariants.{Damaged, Memory, Input, Output, Device, TooMuchInput}
+use Rattle.tq_run.specs.Counts.{StopCounts}
 use Rattle.tq_run.specs.Ending.{trace_of}
 use Rattle.tq_run.specs.Output.{TellsMore, HasBegun}
 use Rattle.tq_run.specs.Manager.{site_of, IsBooted}
 use Rattle.tq_run.specs.Stops.{ImageStands, AreOn, HasNoNewImage, IsOldOrBooted}
-use Rattle.tq_run.specs.Turns.{ImageStandsFor, IsBeforeOrAfter, IsOfLines, origin_of}
-use Rattle.tq_run.specs.Standing.{IsIn, HasReached}
+use Rattle.tq_run.specs.Turns.{ImageStandsFor, IsBeforeOrAfter, IsOfLines, RunsOver, origin_of, none_failed}
+use Rattle.tq_run.specs.Standing.{IsIn, HasStarted}
 use Rattle.tq_run.proofs.Attending.{same_found}
 use Rattle.tq_run.proofs.Booting.{read_stands}
 use Rattle.tq_run.proofs.Rebooting.{turn_up, site_up}
-use Rattle.tq_run.proofs.States.{twice, calm, images_in, still_in}
+use Rattle.tq_run.proofs.States.{twice, calm, no_cause, its_cause, images_in, still_in}
 use Rattle.tq_run.proofs.Stopping.{any_steps}
-use Rattle.tq_run.proofs.Turning.{starts_answered, only_done, line_pictures, line_answered}
+use Rattle.tq_run.proofs.Turning.{starts_answered, only_done, line_since, line_on, line_stamps, line_failures, line_pictures, line_answered}
 
 -- the turn of line 0
 abbrev pub first_turn : Bool → Site → Turn
@@ -37,6 +40,22 @@ first_turn rose s = cond rose (failing_turn s Boot) (boot_turn s)
 first_is : (rose : Bool) (found : Option Site) (s : Site) → turn_at rose found (Up s) Boot ≡ first_turn rose s
 first_is true found s = refl
 first_is false found s = refl
+
+-- whether a device failed in a call, and in a part of line 0 that ended
+cause_of_call : {T E : Type 0} (before now : ℕ) (r : Result T E) → HasCause before now r → (fails : Bool) × HasCauseOf (fails ≡ true) before now
+cause_of_call before now (Ok x) cause = (false, no_cause before now cause.ok)
+cause_of_call before now (Err e) cause = (true, its_cause before now (record { later = cause.later; rose = cause.failed }))
+
+cause_of_stop : (stop : Stop) (before : ℕ) (b d : View) → b.faults ≡ before → StopCounts stop b d → (fails : Bool) × HasCauseOf (fails ≡ true) before d.faults
+cause_of_stop stop before b d same counts = subst (λ n. (fails : Bool) × HasCauseOf (fails ≡ true) n d.faults) same (by_stop stop counts)
+  where
+    by_stop : (stop : Stop) → StopCounts stop b d → (fails : Bool) × HasCauseOf (fails ≡ true) b.faults d.faults
+    by_stop Device counts = (true, its_cause b.faults d.faults counts.device)
+    by_stop Damaged counts = (false, no_cause b.faults d.faults counts.device)
+    by_stop Memory counts = (false, no_cause b.faults d.faults counts.device)
+    by_stop Input counts = (false, no_cause b.faults d.faults counts.device)
+    by_stop Output counts = (false, no_cause b.faults d.faults counts.device)
+    by_stop TooMuchInput counts = (false, no_cause b.faults d.faults counts.device)
 
 -- an image of a boot is one of line 0's
 image_of_boot : (rose : Bool) (s : Site) (image : List ℕ) → can_boot s ≡ true → ImageStands (booted s) image → ImageStandsFor (first_turn rose s).condition image
@@ -69,39 +88,44 @@ module _ (found : Site) (a b : View) {r : Result (Unit {0}) Failed} (is : site_f
       came : (c : List ℕ) → b.may_leave 0 c → Came 0 IsAnyStep (IsBeforeOrAfter (Up found) t) a c
       came c may = record { image = c; was = same.may_leave 0 c may; step = tt; now = inl (stands_then settled c may) }
 
-  pub attach_pictures : IsSettled 0 a → Ran (IsOfLines (origin_of a) b found (Boot ∷ [])) a b
-  attach_pictures settled =
-      let t = first_turn (nat_lt a.faults b.faults) found in
-      only_done (starts_answered a found) Boot t attached.streams (first_is (nat_lt a.faults b.faults) None found) (attaching settled t)
+  pub attach_over : IsSettled 0 a → RunsOver (origin_of a) found none_failed (Boot ∷ []) a b
+  attach_over settled =
+      let cause = cause_of_call a.faults b.faults r attached.cause in
+      let t = first_turn cause.0 found in
+      only_done (starts_answered a found) Boot t attached.streams cause.0 cause.1 (first_is cause.0 None found) (attaching settled t)
 
   module _ (d : View) (streams : d.streams ≡ b.streams)
       (boots : (sites : List Site) → ((image : List ℕ) → b.may_leave 0 image → Any (λ s. ImageStands s image) sites) → (s : Site) → site_found 1 b.reads ≡ Some s → Within 0 IsAnyStep (IsOldOrBooted sites s) b d) where
-    abbrev t : Turn
-    t = first_turn (nat_lt a.faults d.faults) found
-
     -- and then booted
-    booting : IsSettled 0 a → Within 0 IsAnyStep (IsBeforeOrAfter (Up found) t) a d
-    booting settled =
-        in_a_row 0 IsAnyStep any_steps (IsBeforeOrAfter (Up found) t) a b d (attaching settled t)
-        (weaker 0 IsAnyStep any_steps (IsOldOrBooted (found ∷ []) found) (IsBeforeOrAfter (Up found) t) b d
-        (λ start image may which. ⊎_elim (λ old. inl (only_one found image old)) (λ new. inr (image_of_boot (nat_lt a.faults d.faults) found image new.0 new.1)) which)
+    booting : (fails : Bool) → IsSettled 0 a → Within 0 IsAnyStep (IsBeforeOrAfter (Up found) (first_turn fails found)) a d
+    booting fails settled =
+        in_a_row 0 IsAnyStep any_steps (IsBeforeOrAfter (Up found) (first_turn fails found)) a b d (attaching settled (first_turn fails found))
+        (weaker 0 IsAnyStep any_steps (IsOldOrBooted (found ∷ []) found) (IsBeforeOrAfter (Up found) (first_turn fails found)) b d
+        (λ start image may which. ⊎_elim (λ old. inl (only_one found image old)) (λ new. inr (image_of_boot fails found image new.0 new.1)) which)
         (boots (found ∷ []) (λ image may. (0, found, omega arith, refl, stands_then settled image may)) found (same_found b.reads a.reads (same.reads 0) ∙ is)))
 
     same_streams : d.streams ≡ a.streams
     same_streams = streams ∙ attached.streams
 
-    pub boot_pictures : IsSettled 0 a → Ran (IsOfLines (origin_of a) d found (Boot ∷ [])) a d
-    boot_pictures settled = only_done (starts_answered a found) Boot t same_streams (first_is (nat_lt a.faults d.faults) None found) (booting settled)
+    -- a boot that ended line 0
+    pub boot_ended : b.faults ≡ a.faults → (stop : Stop) → StopCounts stop b d → IsSettled 0 a → RunsOver (origin_of a) found none_failed (Boot ∷ []) a d
+    boot_ended calm_attach stop counts settled =
+        let cause = cause_of_stop stop a.faults b d calm_attach counts in
+        only_done (starts_answered a found) Boot (first_turn cause.0 found) same_streams cause.0 cause.1 (first_is cause.0 None found) (booting cause.0 settled)
 
-    module _ (m : Manager) (e : View) (boots_is : IsBooted m b d) (calm_boot : d.faults ≡ a.faults) (on : AreOn m d) (same_after : e.faults ≡ d.faults) (none : HasNoNewImage d e) where
+    module _ (calm_boot : d.faults ≡ a.faults) (m : Manager) (e : View) (boots_is : IsBooted m b d) (on : AreOn m d) (same_after : e.faults ≡ d.faults) (none : HasNoNewImage d e)
+        (k : ℕ) (given : IsGiven k (line_text 0 (ready (site_of m))) d e) (gives : Ran (IsGiving (line_text 0 (ready (site_of m))) d e) d e) where
+      abbrev t : Turn
+      t = first_turn false found
+
       found_is : boots_is.found ≡ found
       found_is = some_is boots_is.found found (sym boots_is.stood ∙ same_found b.reads a.reads (same.reads 0) ∙ is)
         where
           some_is : (x y : Site) → Some x ≡ Some y → x ≡ y
           some_is x y e = cc
 
-      booted_to : t ≡ record { condition = Up (booted found); answer = ready (booted found) }
-      booted_to = ap (λ (b : Bool). first_turn b found) (calm a.faults d.faults calm_boot) ∙ turn_up found (ap can_boot (sym found_is) ∙ boots_is.raisable)
+      booted_to : first_turn false found ≡ record { condition = Up (booted found); answer = ready (booted found) }
+      booted_to = turn_up found (ap can_boot (sym found_is) ∙ boots_is.raisable)
 
       up_after : IsIn (states.Up m) t.condition d
       up_after = subst (λ (u : Turn). IsIn (states.Up m) u.condition d) (sym booted_to) (record { site = boots_is.site ∙ ap booted found_is; on = on })
@@ -109,17 +133,40 @@ module _ (found : Site) (a b : View) {r : Result (Unit {0}) Failed} (is : site_f
       text_is : line_text 0 (ready (site_of m)) ≡ line_text 0 t.answer
       text_is = ap (λ (s : Site). line_text 0 (ready s)) (boots_is.site ∙ ap booted found_is) ∙ ap (λ (u : Turn). line_text 0 u.answer) (sym booted_to)
 
-      pub first_pictures : IsSettled 0 a → (k : ℕ) → IsGiven k (line_text 0 (ready (site_of m))) d e → Ran (IsGiving (line_text 0 (ready (site_of m))) d e) d e → Ran (IsOfLines (origin_of a) e found (Boot ∷ [])) a e
-      first_pictures settled k given gives =
-          line_pictures (starts_answered a found) Boot t same_streams (first_is (nat_lt a.faults d.faults) None found) same_after (subst (λ (l : List ℕ). IsGiven k l d e) text_is given) (booting settled)
+      given_text : IsGiven k (line_text 0 t.answer) d e
+      given_text = subst (λ (l : List ℕ). IsGiven k l d e) text_is given
+
+      calm_line : HasCauseOf (◌≡◌ {A = Bool} false true) a.faults d.faults
+      calm_line = no_cause a.faults d.faults calm_boot
+
+      abbrev first_since : Failures
+      first_since = line_since (starts_answered a found) Boot t same_streams false calm_line (first_is false None found) same_after given_text
+
+      pictures : IsSettled 0 a → Ran (IsOfLines (origin_of a) e found first_since (Boot ∷ [])) a e
+      pictures settled =
+          line_pictures (starts_answered a found) Boot t same_streams false calm_line (first_is false None found) same_after given_text (booting false settled)
           (λ image may. images_in (states.Up m) t.condition d image up_after may) none (subst (λ (l : List ℕ). Ran (IsGiving l d e) d e) text_is gives)
 
-      pub first_reached : IsGiven (length (line_text 0 (ready (site_of m)))) (line_text 0 (ready (site_of m))) d e → e.reads 0 ≡ d.reads 0 → HasReached (origin_of a) found (Boot ∷ []) (states.Up m) e
-      first_reached given reads = record {
-        condition = t.condition;
-        answered = line_answered (starts_answered a found) Boot t same_streams (first_is (nat_lt a.faults d.faults) None found) same_after (subst (λ (l : List ℕ). IsGiven (length l) l d e) text_is given) refl (same_found e.reads d.reads reads);
-        is = still_in (states.Up m) t.condition d e none up_after;
-        some = omega arith;
+      pub first_over : IsSettled 0 a → RunsOver (origin_of a) found none_failed (Boot ∷ []) a e
+      first_over settled = record {
+        since = first_since;
+        on = line_on (starts_answered a found) Boot t same_streams false calm_line (first_is false None found) same_after given_text;
+        added = (starts_answered a found).added ++ replicate k (record { faults = d.faults; reads = d.reads });
+        stamps = line_stamps (starts_answered a found) Boot t same_streams false calm_line (first_is false None found) same_after given_text;
+        failures = line_failures (starts_answered a found) Boot t same_streams false calm_line (first_is false None found) same_after given_text;
+        ran = pictures settled;
+      }
+
+      pub first_started : k ≡ length (line_text 0 (ready (site_of m))) → e.reads 0 ≡ d.reads 0 → HasStarted found (states.Up m) a e
+      first_started whole reads = record {
+        failed = first_since;
+        reached = record {
+          condition = t.condition;
+          answered = line_answered (starts_answered a found) Boot t same_streams false calm_line (first_is false None found) same_after given_text (whole ∙ ap (λ (l : List ℕ). length l) text_is) (same_found e.reads d.reads reads);
+          is = still_in (states.Up m) t.condition d e none up_after;
+          some = omega arith;
+        };
+        ran = pictures;
       }
 
 -- Whether a device failed in line 0, by what is told

@@ -1,56 +1,95 @@
 -- A run, line by line.
-use Rattle.std.proofs.Common.{◌≡◌, ◌≤◌, ℕ, ◌+◌, ◌-◌, List, [], ◌∷◌, ◌++◌, refl, sym, ◌∙◌, ap, subst, arith, length, take, append_assoc, length-append}
-use Rattle.std.specs.Prelude.{map}
-use Rattle.std.proofs.lemmas.List.{append-nil, take-append-le}
-use Rattle.tq_host.specs.View.{View, Stamp, Picture, Streams, Told, TellsAll, IsLawful}
+use Rattle.std.proofs.Common.{◌≡◌, ◌≤◌, ℕ, ◌+◌, ◌-◌, List, [], ◌∷◌, ◌++◌, Some, refl, sym, ◌∙◌, ap, subst, arith, length, take, append_assoc, length-append}
+use Rattle.std.specs.Prelude.{map, replicate}
+use Rattle.std.proofs.lemmas.List.{append-nil, append_cancel_left, take-append-le}
+use Rattle.tq_host.specs.View.{View, Stamp, Picture, Streams, Told, TellsAll, IsLawful, IsSettled}
 use Rattle.tq_host.specs.Calls.{IsGiven, IsGiving}
-use Rattle.tq_host.specs.Within.{Within, Ran}
-use Rattle.tq_host.proofs.Running.{ran_on, ran_start, ran_weaker}
+use Rattle.tq_host.specs.Within.{Ran}
+use Rattle.tq_host.proofs.Running.{ran_on, ran_start, ran_weaker, each}
+use Rattle.tq_model.specs.declared.answer.Answer.{Answer}
 use Rattle.tq_model.specs.declared.request.Request.{Request}
 use Rattle.tq_model.specs.Site.{Site}
 use Rattle.tq_model.specs.Text.{line_text}
 use Rattle.tq_model.specs.Grammar.{script_lines, script_requests, line_request}
-use Rattle.tq_model.specs.Reading.{reading, combined}
+use Rattle.tq_model.specs.Reading.{reading, combined, site_found}
 use Rattle.tq_model.specs.declared.request.Request.TheVariants.{Boot}
-use Rattle.tq_model.specs.Faulty.{Condition, Up, Down, Turn, StandForState}
-use Rattle.tq_device.specs.Content.{IsAnyStep}
+use Rattle.tq_model.specs.Faulty.{Condition, Up, Down, Failures, Turn, turn_at, found_at, StandForState}
 use Rattle.tq_run.specs.declared.state.State.{State}
 use Rattle.tq_run.specs.Output.{TellsMore}
-use Rattle.tq_run.specs.Stops.{HasNoNewImage, IsWaiting, IsOfRun}
-use Rattle.tq_run.specs.Ending.{IsDone}
-use Rattle.tq_run.specs.Turns.{Origin, origin_of, ImageStandsFor, IsOfLines, IsBeforeOrAfter, turn_between, told_after}
-use Rattle.tq_run.specs.Standing.{IsIn, HasReached}
-use Rattle.tq_run.proofs.Turning.{turn_told, still_answered, ran_more, of_answered_more, only_done, line_pictures, line_answered}
+use Rattle.tq_run.specs.Stops.{HasNoNewImage, IsWaiting, IsOfRun, IsCrashSafe}
+use Rattle.tq_run.specs.Ending.{IsDone, trace_of}
+use Rattle.tq_run.specs.Turns.{Origin, origin_of, none_failed, ImageStandsFor, IsOfLines, GoesOn, RunsOver, turn_between, trace_from, told_after}
+use Rattle.tq_run.specs.Standing.{IsIn, HasTurned, IsTurning, HasReached, HasRun, HasStarted}
+use Rattle.tq_run.proofs.Booting.{read_stands}
+use Rattle.tq_run.proofs.Turning.{starts_answered, turn_told, still_answered, ran_more, of_answered_more, only_done, line_since, line_on, line_stamps, line_failures, line_pictures, line_answered}
 use Rattle.tq_run.proofs.States.{images_in, still_in}
 
-module _ (o : Origin) (found : Site) (done : List Request) (r : Request) (state : State) (a b : View) (reached : HasReached o found done state a) where
-  abbrev t : Turn
-  t = turn_between a.faults b.faults a.reads reached.condition r
+module _ (o : Origin) (found : Site) (failed : Failures) (done : List Request) (r : Request) (state : State) (a b : View) (reached : HasReached o found failed done state a) where
+  -- a line that came to no answer
+  pub done_line : b.streams ≡ a.streams → IsTurning state r a b → RunsOver o found failed (done ++ r ∷ []) a b
+  done_line streams turning =
+      only_done reached.answered r (turn_between turning.failed a.reads reached.condition r) streams turning.failed turning.cause (turn_told reached.answered reached.some turning.failed r) (turning.within reached.condition reached.is)
 
-  abbrev text : List ℕ
-  text = line_text (length done) (turn_between a.faults b.faults a.reads reached.condition r).answer
+  -- a line whose answer is given, or a part of it
+  module _ (state' : State) (answer : Answer) (d : View) (streams : b.streams ≡ a.streams) (turned : HasTurned state state' r answer a b) (same : d.faults ≡ b.faults) (none : HasNoNewImage b d) where
+    abbrev t : Turn
+    t = turn_between turned.failed a.reads reached.condition r
 
-  module _ (streams : b.streams ≡ a.streams) (within : Within 0 IsAnyStep (IsBeforeOrAfter reached.condition t) a b) where
-    -- a line that is done and not answered
-    pub done_line : Ran (IsOfLines o b found (done ++ r ∷ [])) a b
-    done_line = only_done reached.answered r t streams (turn_told reached.answered reached.some b.faults r) within
+    is_text : line_text (length done) answer ≡ line_text (length done) t.answer
+    is_text = ap (line_text (length done)) (turned.answer reached.condition reached.is)
 
-    module _ (state' : State) (d : View) (is : IsIn state' t.condition b) (same : d.faults ≡ b.faults) (none : HasNoNewImage b d) (k : ℕ) (given : IsGiven k text b d) where
-      -- a line whose answer is given, or a part of it
-      pub given_line : Ran (IsGiving text b d) b d → Ran (IsOfLines o d found (done ++ r ∷ [])) a d
-      given_line gives = line_pictures reached.answered r t streams (turn_told reached.answered reached.some b.faults r) same given within (λ image may. images_in state' t.condition b image is may) none gives
+    told : turn_at turned.failed (found_at (trace_from o a.faults reached.answered.added) (length reached.answered.added)) reached.condition r ≡ t
+    told = turn_told reached.answered reached.some turned.failed r
 
-      pub line_reached : k ≡ length text → d.reads 0 ≡ b.reads 0 → HasReached o found (done ++ r ∷ []) state' d
-      line_reached whole reads = record {
-        condition = t.condition;
-        answered = line_answered reached.answered r t streams (turn_told reached.answered reached.some b.faults r) same given whole (ap (λ (i : List ℕ). combined (reading 0 i ∷ [])) reads);
-        is = still_in state' t.condition b d none is;
-        some = omega (arith, length-append done (r ∷ []));
+    is_in : IsIn state' t.condition b
+    is_in = turned.then reached.condition reached.is
+
+    module _ (k : ℕ) (given : IsGiven k (line_text (length done) answer) b d) (gives : Ran (IsGiving (line_text (length done) answer) b d) b d) where
+      given_text : IsGiven k (line_text (length done) t.answer) b d
+      given_text = subst (λ (l : List ℕ). IsGiven k l b d) is_text given
+
+      pictures : Ran (IsOfLines o d found (line_since reached.answered r t streams turned.failed turned.cause told same given_text) (done ++ r ∷ [])) a d
+      pictures =
+          line_pictures reached.answered r t streams turned.failed turned.cause told same given_text (turned.within reached.condition reached.is) (λ image may. images_in state' t.condition b image is_in may) none
+          (subst (λ (l : List ℕ). Ran (IsGiving l b d) b d) is_text gives)
+
+      pub given_line : RunsOver o found failed (done ++ r ∷ []) a d
+      given_line = record {
+        since = line_since reached.answered r t streams turned.failed turned.cause told same given_text;
+        on = line_on reached.answered r t streams turned.failed turned.cause told same given_text;
+        added = reached.answered.added ++ replicate k (record { faults = b.faults; reads = b.reads });
+        stamps = line_stamps reached.answered r t streams turned.failed turned.cause told same given_text;
+        failures = line_failures reached.answered r t streams turned.failed turned.cause told same given_text;
+        ran = pictures;
       }
 
+      pub line_run : k ≡ length (line_text (length done) answer) → d.reads 0 ≡ b.reads 0 → HasRun o found failed (done ++ r ∷ []) state' a d
+      line_run whole reads = record {
+        since = line_since reached.answered r t streams turned.failed turned.cause told same given_text;
+        on = line_on reached.answered r t streams turned.failed turned.cause told same given_text;
+        reached = record {
+          condition = t.condition;
+          answered = line_answered reached.answered r t streams turned.failed turned.cause told same given_text (whole ∙ ap (λ (l : List ℕ). length l) is_text) (ap (λ (i : List ℕ). combined (reading 0 i ∷ [])) reads);
+          is = still_in state' t.condition b d none is_in;
+          some = omega (arith, length-append done (r ∷ []));
+        };
+        ran = pictures;
+      }
+
+-- Parts in a row
+
+pub on_none : (o : Origin) (v : View) (failed : Failures) → GoesOn o v failed failed
+on_none o v failed at lt = refl
+
+pub on_more : (o : Origin) (v w : View) (failed since later : Failures) → length v.streams.stamps ≤ length w.streams.stamps → GoesOn o v failed since → GoesOn o w since later → GoesOn o v failed later
+on_more o v w failed since later le first second at lt = second at (omega (arith, lt, le)) ∙ first at lt
+
+pub told_longer : (v w : View) → TellsMore v w → length v.streams.stamps ≤ length w.streams.stamps
+told_longer v w more = omega (arith, ap (λ (l : List Stamp). length l) more.1, length-append v.streams.stamps more.0)
+
 -- the same pictures, with lines behind these
-pub of_front : (o : Origin) (now : View) (found : Site) (done rest : List Request) (p : Picture) → IsOfLines o now found done p → IsOfLines o now found (done ++ rest) p
-of_front o now found done rest p is =
+pub of_front : (o : Origin) (now : View) (found : Site) (failed : Failures) (done rest : List Request) (p : Picture) → IsOfLines o now found failed done p → IsOfLines o now found failed (done ++ rest) p
+of_front o now found failed done rest p is =
     let front : take is.lines (done ++ rest) ≡ take is.lines done = take-append-le is.lines done rest is.within in
     let less : take (is.lines - 1) (done ++ rest) ≡ take (is.lines - 1) done = take-append-le (is.lines - 1) done rest (omega (arith, is.within)) in
     record {
@@ -58,14 +97,78 @@ of_front o now found done rest p is =
       stamps = is.stamps;
       lines = is.lines;
       within = omega (arith, is.within, length-append done rest);
-      stand = subst (λ (l : List Request). StandForState 1 p.images (told_after o now.faults is.added found l).condition) (sym front) is.stand;
+      stand = subst (λ (l : List Request). StandForState 1 p.images (told_after o now.faults is.added failed found l).condition) (sym front) is.stand;
       given = is.given;
-      gave = is.gave ∙ ap (λ (l : List Request). o.output ++ take is.given (told_after o now.faults is.added found l).text) (sym front);
-      answered = subst (λ (l : List Request). length (told_after o now.faults is.added found l).text ≤ is.given) (sym less) is.answered;
+      gave = is.gave ∙ ap (λ (l : List Request). o.output ++ take is.given (told_after o now.faults is.added failed found l).text) (sym front);
+      answered = subst (λ (l : List Request). length (told_after o now.faults is.added failed found l).text ≤ is.given) (sym less) is.answered;
     }
 
-pub ran_front : (o : Origin) (now : View) (found : Site) (done rest : List Request) (from : View) → Ran (IsOfLines o now found done) from now → Ran (IsOfLines o now found (done ++ rest)) from now
-ran_front o now found done rest from ran = ran_weaker (IsOfLines o now found done) (IsOfLines o now found (done ++ rest)) from now (of_front o now found done rest) ran
+pub over_front : (o : Origin) (found : Site) (failed : Failures) (done rest : List Request) (old new : View) → RunsOver o found failed done old new → RunsOver o found failed (done ++ rest) old new
+over_front o found failed done rest old new over = record {
+  since = over.since;
+  on = over.on;
+  added = over.added;
+  stamps = over.stamps;
+  failures = over.failures;
+  ran = ran_weaker (IsOfLines o new found over.since done) (IsOfLines o new found over.since (done ++ rest)) old new (of_front o new found over.since done rest) over.ran;
+}
+
+-- what is answered, and the pictures up to then
+pub over_run : (o : Origin) (found : Site) (failed : Failures) (done : List Request) (state : State) (old new : View) → HasRun o found failed done state old new → RunsOver o found failed done old new
+over_run o found failed done state old new run = record {
+  since = run.since;
+  on = run.on;
+  added = run.reached.answered.added;
+  stamps = run.reached.answered.stamps;
+  failures = run.reached.answered.failures;
+  ran = run.ran;
+}
+
+-- a part whose end is reached, and one that begins there
+module _ (o : Origin) (found : Site) (failed : Failures) (done more : List Request) (state : State) (old mid new : View) (run : HasRun o found failed done state old mid) (told : TellsMore mid new) (earlier : TellsMore old mid) where
+  in_a_row : (since : Failures) → GoesOn o mid run.since since → Ran (IsOfLines o new found since (done ++ more)) mid new → Ran (IsOfLines o new found since (done ++ more)) old new
+  in_a_row since on ran = ran_on (IsOfLines o new found since (done ++ more)) old mid new (ran_more run.reached.answered new told.0 told.1 since on more old run.ran) ran
+
+  goes_on : (since : Failures) → GoesOn o mid run.since since → GoesOn o old failed since
+  goes_on since on = on_more o old mid failed run.since since (told_longer old mid earlier) run.on on
+
+  pub then_over : RunsOver o found run.since (done ++ more) mid new → RunsOver o found failed (done ++ more) old new
+  then_over over = record {
+    since = over.since;
+    on = goes_on over.since over.on;
+    added = over.added;
+    stamps = over.stamps;
+    failures = over.failures;
+    ran = in_a_row over.since over.on over.ran;
+  }
+
+  pub then_run : (state' : State) → HasRun o found run.since (done ++ more) state' mid new → HasRun o found failed (done ++ more) state' old new
+  then_run state' next = record {
+    since = next.since;
+    on = goes_on next.since next.on;
+    reached = next.reached;
+    ran = in_a_row next.since next.on next.ran;
+  }
+
+-- the first line, where nothing was pending when it began
+pub run_started : (a b : View) (found : Site) (state : State) → IsSettled 0 a → HasStarted found state a b → HasRun (origin_of a) found none_failed (Boot ∷ []) state a b
+run_started a b found state settled started = record {
+  since = started.failed;
+  on = λ at lt. absurd (omega (arith, lt));
+  reached = started.reached;
+  ran = started.ran settled;
+}
+
+-- where nothing was done at all
+pub over_waiting : (o : Origin) (found : Site) (failed : Failures) (done rest : List Request) (state : State) (a : View) → HasReached o found failed done state a → RunsOver o found failed (done ++ rest) a a
+over_waiting o found failed done rest state a reached = record {
+  since = failed;
+  on = on_none o a failed;
+  added = reached.answered.added;
+  stamps = reached.answered.stamps;
+  failures = reached.answered.failures;
+  ran = ran_start (IsOfLines o a found failed (done ++ rest)) a;
+}
 
 -- Lines of a script
 
@@ -73,65 +176,64 @@ pub requests_first : (rest line behind : List ℕ) → script_lines rest ≡ lin
 requests_first rest line behind e = ap (λ (ls : List (List ℕ)). map line_request ls) e
 
 -- So far are the lines: those behind `first` that are done, with those of the rest, are all of them.
-pub record IsSoFar (o : Origin) (found : Site) (first : Request) (all rest : List Request) (number : ℕ) (state : State) (start now : View) : Type 0 where
+pub record IsSoFar (o : Origin) (found : Site) (failed : Failures) (first : Request) (all rest : List Request) (number : ℕ) (state : State) (start now : View) : Type 0 where
   pub done : List Request
   pub joined : done ++ rest ≡ all
   pub count : number ≡ length (first ∷ done)
-  pub reached : HasReached o found (first ∷ done) state now
-  pub ran : Ran (IsOfLines o now found (first ∷ done)) start now
+  pub run : HasRun o found failed (first ∷ done) state start now
 
-pub so_far_first : (o : Origin) (found : Site) (first : Request) (all : List Request) (state : State) (start : View) → HasReached o found (first ∷ []) state start → IsSoFar o found first all all 1 state start start
-so_far_first o found first all state start reached = record { done = []; joined = refl; count = refl; reached = reached; ran = ran_start (IsOfLines o start found (first ∷ [])) start }
+pub so_far_first : (o : Origin) (found : Site) (failed : Failures) (first : Request) (all : List Request) (state : State) (start : View) → HasReached o found failed (first ∷ []) state start → IsSoFar o found failed first all all 1 state start start
+so_far_first o found failed first all state start reached = record {
+  done = [];
+  joined = refl;
+  count = refl;
+  run = record { since = failed; on = on_none o start failed; reached = reached; ran = ran_start (IsOfLines o start found failed (first ∷ [])) start };
+}
 
-module _ (o : Origin) (found : Site) (first : Request) (all rest behind : List Request) (r : Request) (number : ℕ) (state : State) (start mid new : View)
-    (so_far : IsSoFar o found first all rest number state start mid) (split : rest ≡ r ∷ behind) (more : TellsMore mid new) where
-  -- the pictures up to the end of the next line
-  pub next_ran : Ran (IsOfLines o new found ((first ∷ so_far.done) ++ r ∷ [])) mid new → Ran (IsOfLines o new found (first ∷ (so_far.done ++ r ∷ []))) start new
-  next_ran ran =
-      ran_on (IsOfLines o new found (first ∷ (so_far.done ++ r ∷ []))) start mid new
-      (ran_more so_far.reached.answered new more.0 more.1 (r ∷ []) start so_far.ran) ran
-
+module _ (o : Origin) (found : Site) (failed : Failures) (first : Request) (all rest behind : List Request) (r : Request) (number : ℕ) (state : State) (start mid new : View)
+    (so_far : IsSoFar o found failed first all rest number state start mid) (split : rest ≡ r ∷ behind) (more : TellsMore mid new) (earlier : TellsMore start mid) where
   all_of : (so_far.done ++ r ∷ []) ++ behind ≡ all
   all_of = append_assoc so_far.done (r ∷ []) behind ∙ ap (λ (l : List Request). so_far.done ++ l) (sym split) ∙ so_far.joined
 
-  pub so_far_next : (state' : State) → HasReached o found ((first ∷ so_far.done) ++ r ∷ []) state' new → Ran (IsOfLines o new found ((first ∷ so_far.done) ++ r ∷ [])) mid new → IsSoFar o found first all behind (number + 1) state' start new
-  so_far_next state' reached ran = record {
+  pub so_far_next : (state' : State) → HasRun o found so_far.run.since ((first ∷ so_far.done) ++ r ∷ []) state' mid new → IsSoFar o found failed first all behind (number + 1) state' start new
+  so_far_next state' next = record {
     done = so_far.done ++ r ∷ [];
     joined = all_of;
     count = omega (arith, so_far.count, length-append so_far.done (r ∷ []));
-    reached = reached;
-    ran = next_ran ran;
+    run = then_run o found failed (first ∷ so_far.done) (r ∷ []) state start mid new so_far.run more earlier state' next;
   }
 
   -- where that line ends the run
-  pub ends_here : Ran (IsOfLines o new found ((first ∷ so_far.done) ++ r ∷ [])) mid new → Ran (IsOfLines o new found (first ∷ all)) start new
-  ends_here ran =
-      subst (λ (l : List Request). Ran (IsOfLines o new found (first ∷ l)) start new) all_of
-      (ran_front o new found (first ∷ (so_far.done ++ r ∷ [])) behind start (next_ran ran))
+  pub ends_here : RunsOver o found so_far.run.since ((first ∷ so_far.done) ++ r ∷ []) mid new → RunsOver o found failed (first ∷ all) start new
+  ends_here over =
+      subst (λ (l : List Request). RunsOver o found failed (first ∷ l) start new) all_of
+      (over_front o found failed (first ∷ (so_far.done ++ r ∷ [])) behind start new (then_over o found failed (first ∷ so_far.done) (r ∷ []) state start mid new so_far.run more earlier over))
 
 -- at the end of the lines
-pub all_ran : (o : Origin) (found : Site) (first : Request) (all : List Request) (number : ℕ) (state : State) (start now : View) → IsSoFar o found first all [] number state start now → Ran (IsOfLines o now found (first ∷ all)) start now
-all_ran o found first all number state start now so_far =
-    subst (λ (l : List Request). Ran (IsOfLines o now found (first ∷ l)) start now) (sym (append-nil so_far.done) ∙ so_far.joined) so_far.ran
-
-pub all_reached : (o : Origin) (found : Site) (first : Request) (all : List Request) (number : ℕ) (state : State) (start now : View) → IsSoFar o found first all [] number state start now → HasReached o found (first ∷ all) state now
-all_reached o found first all number state start now so_far =
-    subst (λ (l : List Request). HasReached o found (first ∷ l) state now) (sym (append-nil so_far.done) ∙ so_far.joined) so_far.reached
+pub all_run : (o : Origin) (found : Site) (failed : Failures) (first : Request) (all : List Request) (number : ℕ) (state : State) (start now : View) → IsSoFar o found failed first all [] number state start now → HasRun o found failed (first ∷ all) state start now
+all_run o found failed first all number state start now so_far = subst (λ (l : List Request). HasRun o found failed (first ∷ l) state start now) (sym (append-nil so_far.done) ∙ so_far.joined) so_far.run
 
 -- While nothing is done
 
-pub waiting_ran : (o : Origin) (found : Site) (done rest : List Request) (state : State) (a b d : View) → HasReached o found done state a → Ran (IsWaiting a) a b → TellsMore a d → Ran (IsOfLines o d found (done ++ rest)) a b
-waiting_ran o found done rest state a b d reached waits more =
-    ran_weaker (IsWaiting a) (IsOfLines o d found (done ++ rest)) a b
-    (λ p w. of_answered_more reached.answered d more.0 more.1 rest p (images_in state reached.condition a (p.images 0) reached.is (w.images 0)) w.output) waits
-
-pub waiting_reached : (o : Origin) (found : Site) (done : List Request) (state : State) (a b : View) → HasReached o found done state a → HasNoNewImage a b → b.streams.output ≡ a.streams.output → b.streams.stamps ≡ a.streams.stamps
-    → b.faults ≡ a.faults → b.reads 0 ≡ a.reads 0 → HasReached o found done state b
-waiting_reached o found done state a b reached none output stamps faults reads = record {
+pub waiting_reached : (o : Origin) (found : Site) (failed : Failures) (done : List Request) (state : State) (a b : View) → HasReached o found failed done state a → HasNoNewImage a b → b.streams.output ≡ a.streams.output → b.streams.stamps ≡ a.streams.stamps
+    → b.faults ≡ a.faults → b.reads 0 ≡ a.reads 0 → HasReached o found failed done state b
+waiting_reached o found failed done state a b reached none output stamps faults reads = record {
   condition = reached.condition;
   answered = still_answered reached.answered b output stamps faults (ap (λ (i : List ℕ). combined (reading 0 i ∷ [])) reads);
   is = still_in state reached.condition a b none reached.is;
   some = reached.some;
+}
+
+-- the run so far, with a part in which nothing is done behind it
+pub waiting_run : (o : Origin) (found : Site) (failed : Failures) (done : List Request) (state : State) (a b : View) → HasReached o found failed done state a → HasNoNewImage a b → b.streams.output ≡ a.streams.output → b.streams.stamps ≡ a.streams.stamps
+    → b.faults ≡ a.faults → b.reads 0 ≡ a.reads 0 → Ran (IsWaiting a) a b → HasRun o found failed done state a b
+waiting_run o found failed done state a b reached none output stamps faults reads waits = record {
+  since = failed;
+  on = on_none o a failed;
+  reached = waiting_reached o found failed done state a b reached none output stamps faults reads;
+  ran = ran_weaker (IsWaiting a) (IsOfLines o b found failed done) a b
+      (λ p w. subst (λ (l : List Request). IsOfLines o b found failed l p) (append-nil done)
+      (of_answered_more reached.answered b [] (stamps ∙ sym (append-nil a.streams.stamps)) failed (on_none o a failed) [] p (images_in state reached.condition a (p.images 0) reached.is (w.images 0)) w.output)) waits;
 }
 
 pub tells_on : (a b c : View) → TellsMore a b → TellsMore b c → TellsMore a c
@@ -145,10 +247,13 @@ tells_given a b d streams k bytes given = tells_on a b d (tells_none a b (ap (λ
 
 -- The whole run
 
-pub is_done : {tells : Told} (start now : View) (found : Site) (state : State) → IsLawful tells now → TellsAll tells → now.streams.script ≡ [] → HasReached (origin_of start) found (Boot ∷ script_requests start.streams.script) state now → IsDone start now found
-is_done start now found state lawful t left reached = record {
+pub is_done : {tells : Told} (start now : View) (found : Site) (failed : Failures) (state : State) → IsLawful tells now → TellsAll tells → now.streams.script ≡ [] → HasReached (origin_of start) found failed (Boot ∷ script_requests start.streams.script) state now
+    → IsDone start now found
+is_done start now found failed state lawful t left reached = record {
   added = reached.answered.added;
   stamps = reached.answered.stamps;
+  failed = failed;
+  failures = reached.answered.failures;
   script = left;
   output = reached.answered.output;
   devices = subst (λ (c : Condition). StandForState 1 now.reads c) (sym reached.answered.condition)
@@ -159,14 +264,24 @@ is_done start now found state lawful t left reached = record {
     as_read images (Up s) is = is
     as_read images (Down sites) is = is
 
-pub of_run : (start now : View) (found : Site) (p : Picture) → IsOfLines (origin_of start) now found (Boot ∷ script_requests start.streams.script) p → IsOfRun start now found p
-of_run start now found p is = record {
-  added = is.added;
-  stamps = is.stamps;
-  lines = is.lines;
-  within = omega (arith, is.within);
-  stand = is.stand;
-  given = is.given;
-  gave = is.gave;
-  answered = is.answered;
-}
+module _ {tells : Told} {start now : View} (lawful : IsLawful tells start) (found : Site) (settled : IsSettled 0 start) (is : site_found 1 start.reads ≡ Some found)
+    (over : RunsOver (origin_of start) found none_failed (Boot ∷ script_requests start.streams.script) start now) where
+  abbrev requests : List Request
+  requests = Boot ∷ script_requests start.streams.script
+
+  of_run : (p : Picture) → IsOfLines (origin_of start) now found over.since (Boot ∷ script_requests start.streams.script) p → IsOfRun start (trace_of start now over.added) over.since found p
+  of_run p of =
+      let same : of.added ≡ over.added = append_cancel_left start.streams.stamps of.added over.added (sym of.stamps ∙ over.stamps) in
+      subst (λ (l : List Stamp). IsOfRun start (trace_of start now l) over.since found p) same
+      (record { lines = of.lines; within = omega (arith, of.within); stand = of.stand; given = of.given; gave = of.gave; answered = of.answered })
+
+  -- the pictures of a whole run
+  pub is_safe : IsCrashSafe start now found
+  is_safe = record {
+    added = over.added;
+    stamps = over.stamps;
+    failed = over.since;
+    failures = over.failures;
+    pictures = λ p left. of_run p (each (IsOfLines (origin_of start) now found over.since requests) start now lawful over.ran
+        (λ q moment. of_answered_more (starts_answered start found) now over.added over.stamps over.since over.on requests q (read_stands start.reads found (q.images 0) is (settled (q.images 0) (moment.images 0))) moment.output) p left);
+  }

@@ -9,6 +9,7 @@ pub mod Booting
 pub mod Rebooting
 pub mod Calling
 pub mod CallSites
+pub mod Choices
 pub mod Turning
 pub mod States
 pub mod Going

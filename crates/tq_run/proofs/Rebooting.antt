@@ -1,7 +1,7 @@
 -- What a boot within a run leaves, and what it is answered.
 use Rattle.std.proofs.Common.{◌≡◌, ◌≢◌, ◌⊎◌, inl, inr, ⊎_elim, ◌<◌, ℕ, zero, suc, List, [], ◌∷◌, ◌++◌, Option, Some, Bool, true, false, cond, refl, sym, ◌∙◌, ap, subst, arith}
-use Rattle.std.specs.Prelude.{Any, nat_lt, filter, map, option_map}
-use Rattle.tq_host.specs.View.{Told, TellsAll, View, IsLawful, last}
+use Rattle.std.specs.Prelude.{Any, filter, map, option_map}
+use Rattle.tq_host.specs.View.{Told, TellsAll, View, IsLawful}
 use Rattle.tq_host.specs.Within.{Within}
 use Rattle.tq_host.proofs.Within.{weaker}
 use Rattle.tq_model.specs.declared.answer.Answer.TheVariants as answers
@@ -21,9 +21,9 @@ use Rattle.tq_run.specs.Counts.{Rises, IsQuiet, StopCounts}
 use Rattle.tq_run.specs.Manager.{site_of, is_bootable, IsBooted}
 use Rattle.tq_run.specs.Stops.{ImageStands, IsOldOrBooted, AreOn}
 use Rattle.tq_run.specs.Turns.{ImageStandsFor, turn_between, IsBeforeOrAfter}
-use Rattle.tq_run.specs.Standing.{IsIn}
+use Rattle.tq_run.specs.Standing.{IsIn, HasTurned, IsTurning}
 use Rattle.tq_run.proofs.Booting.{read_stands}
-use Rattle.tq_run.proofs.States.{calm, risen, twice, images_in}
+use Rattle.tq_run.proofs.States.{no_cause, its_cause, twice, images_in}
 use Rattle.tq_run.proofs.Stopping.{any_steps}
 
 -- Some element of a list
@@ -125,12 +125,12 @@ module _ (images : ℕ → List ℕ) (found s : Site) (is : site_found 1 images 
 
 -- Turns
 
--- the count did not rise
-quiet_turn : (c : Condition) (images : ℕ → List ℕ) (found : Site) (rose : Bool) → rose ≡ false → site_found 1 images ≡ Some found → ImageStandsFor c (images 0) → turn_at rose (site_found 1 images) c Boot ≡ boot_turn found
-quiet_turn (Up s) images found rose quiet is stands = ap (λ (b : Bool). turn_at b (site_found 1 images) (Up s) Boot) quiet ∙ sym (same_turn images found s is stands)
-quiet_turn (Down sites) images found rose quiet is stands = ap (λ (b : Bool). turn_at b (site_found 1 images) (Down sites) Boot) quiet ∙ ap (λ (o : Option Site). reboot_turn false o sites) is
+-- no device failed
+quiet_turn : (c : Condition) (images : ℕ → List ℕ) (found : Site) → site_found 1 images ≡ Some found → ImageStandsFor c (images 0) → turn_between false images c Boot ≡ boot_turn found
+quiet_turn (Up s) images found is stands = sym (same_turn images found s is stands)
+quiet_turn (Down sites) images found is stands = ap (λ (o : Option Site). reboot_turn false o sites) is
 
--- it rose
+-- one did
 rose_answer : (c : Condition) (found : Option Site) → (turn_at true found c Boot).answer ≡ answers.SystemError
 rose_answer (Up s) found = refl
 rose_answer (Down sites) found = refl
@@ -171,80 +171,93 @@ other_stop stops.Device old new not three counts = absurd (not refl)
 other_stop stops.Input old new not three counts = absurd (not (three (λ e. cc) (λ e. cc)))
 other_stop stops.Output old new not three counts = absurd (not (three (λ e. cc) (λ e. cc)))
 
-module _ {tells : Told} (t : TellsAll tells) (old new : View) (lawful : IsLawful tells old) (state : State) (c : Condition) (is : IsIn state c old) where
-  read_is : ImageStandsFor c (old.reads 0)
-  read_is = images_in state c old (old.reads 0) is (lawful.reads_an_image t.stops 0)
+module _ {tells : Told} (t : TellsAll tells) (old new : View) (lawful : IsLawful tells old) (state : State) where
+  module _ (c : Condition) (is : IsIn state c old) where
+    read_is : ImageStandsFor c (old.reads 0)
+    read_is = images_in state c old (old.reads 0) is (lawful.reads_an_image t.stops 0)
 
-  abbrev the_turn : Turn
-  the_turn = turn_between old.faults new.faults old.reads c Boot
+    -- what is read stands for one of the sites
+    found_is : (s : Site) × ImageStands s (old.reads 0)
+    found_is = let (k, s, below, at, on) = stand_in c (old.reads 0) read_is in (s, on)
 
-  -- what is read stands for one of the sites
-  found_is : (s : Site) × ImageStands s (old.reads 0)
-  found_is = let (k, s, below, at, on) = stand_in c (old.reads 0) read_is in (s, on)
+    found : Site
+    found = durable found_is.0
 
-  found : Site
-  found = durable found_is.0
+    is_found : site_found 1 old.reads ≡ Some found
+    unfolding found
+    is_found = found_is.1
 
-  is_found : site_found 1 old.reads ≡ Some found
-  unfolding found
-  is_found = found_is.1
-
-  module _ (quiet : IsQuiet old new) where
-    turn_is : the_turn ≡ boot_turn found
-    turn_is = quiet_turn c old.reads found (nat_lt old.faults new.faults) (calm old.faults new.faults quiet.device) is_found read_is
+    turn_is : turn_between false old.reads c Boot ≡ boot_turn found
+    turn_is = quiet_turn c old.reads found is_found read_is
 
     -- the site is in memory
-    module _ (m : Manager) (boot : IsBooted m old new) where
-      is_up : the_turn ≡ record { condition = Up (site_of m); answer = ready (site_of m) }
-      is_up =
-          let same : boot.found ≡ found = some_same boot.found found (sym boot.stood ∙ is_found) in
-          turn_is ∙ turn_up found (ap can_boot (sym same) ∙ boot.raisable) ∙ ap (λ (s : Site). record { condition = Up s; answer = ready s }) (ap booted (sym same) ∙ sym boot.site)
-
-      pub up_answer : ready (site_of m) ≡ the_turn.answer
-      up_answer = sym (ap (λ (u : Turn). u.answer) is_up)
-
-      pub up_in : AreOn m new → IsIn (states.Up m) the_turn.condition new
-      up_in on = subst (λ (u : Turn). IsIn (states.Up m) u.condition new) (sym is_up) (record { site = refl; on = on })
+    is_up : (m : Manager) → IsBooted m old new → turn_between false old.reads c Boot ≡ record { condition = Up (site_of m); answer = ready (site_of m) }
+    is_up m boot =
+        let same : boot.found ≡ found = some_same boot.found found (sym boot.stood ∙ is_found) in
+        turn_is ∙ turn_up found (ap can_boot (sym same) ∙ boot.raisable) ∙ ap (λ (s : Site). record { condition = Up s; answer = ready s }) (ap booted (sym same) ∙ sym boot.site)
 
     -- the last epoch stands
-    module _ (lost : is_bootable (site_found 1 old.reads) ≡ false) where
-      is_damaged : the_turn ≡ damaged_turn found
-      is_damaged = turn_is ∙ turn_damaged found (ap is_bootable (sym is_found) ∙ lost)
+    is_damaged : is_bootable (site_found 1 old.reads) ≡ false → turn_between false old.reads c Boot ≡ damaged_turn found
+    is_damaged lost = turn_is ∙ turn_damaged found (ap is_bootable (sym is_found) ∙ lost)
 
-      pub damaged_answer : answers.Damaged 0 ≡ the_turn.answer
-      damaged_answer = sym (ap (λ (u : Turn). u.answer) is_damaged)
+    damaged_in : is_bootable (site_found 1 old.reads) ≡ false → ((image : List ℕ) → new.may_leave 0 image → image ≡ old.reads 0) → IsIn states.Down (turn_between false old.reads c Boot).condition new
+    damaged_in lost settled =
+        subst (λ (u : Turn). IsIn states.Down u.condition new) (sym (is_damaged lost))
+        (λ image may. any_first (StandFor 1 (λ d. image)) (durable found) [] (read_stands old.reads (durable found) image (is_found ∙ ap (λ (s : Site). Some s) (sym (found_durable old.reads found is_found))) (settled image may)))
 
-      pub damaged_in : ((image : List ℕ) → new.may_leave 0 image → image ≡ old.reads 0) → IsIn states.Down the_turn.condition new
-      damaged_in settled =
-          subst (λ (u : Turn). IsIn states.Down u.condition new) (sym is_damaged)
-          (λ image may. any_first (StandFor 1 (λ d. image)) (durable found) [] (read_stands old.reads (durable found) image (is_found ∙ ap (λ (s : Site). Some s) (sym (found_durable old.reads found is_found))) (settled image may)))
+    failed_image : (image : List ℕ) → IsOldOrBooted (sites_in c) found image → ImageStandsFor (turn_between true old.reads c Boot).condition image
+    failed_image image has = rose_image c old.reads found (site_found 1 old.reads) image is_found read_is has
 
   module _ (boots : (sites : List Site) → ((image : List ℕ) → old.may_leave 0 image → Any (λ s. ImageStands s image) sites) → (s : Site) → site_found 1 old.reads ≡ Some s → Within 0 IsAnyStep (IsOldOrBooted sites s) old new) where
-    within : Within 0 IsAnyStep (IsOldOrBooted (sites_in c) found) old new
-    within = boots (sites_in c) (λ image may. stand_in c image (images_in state c old image is may)) found is_found
+    within : (c : Condition) (is : IsIn state c old) → Within 0 IsAnyStep (IsOldOrBooted (sites_in c) (found c is)) old new
+    within c is = boots (sites_in c) (λ image may. stand_in c image (images_in state c old image is may)) (found c is) (is_found c is)
 
-    pub quiet_stop : IsQuiet old new → Within 0 IsAnyStep (IsBeforeOrAfter c the_turn) old new
-    quiet_stop quiet =
-        weaker 0 IsAnyStep any_steps (IsOldOrBooted (sites_in c) found) (IsBeforeOrAfter c the_turn) old new (λ i image was has. ⊎_elim
+    -- the pictures where no device failed
+    quiet_within : (c : Condition) → IsIn state c old → Within 0 IsAnyStep (IsBeforeOrAfter c (turn_between false old.reads c Boot)) old new
+    quiet_within c is =
+        weaker 0 IsAnyStep any_steps (IsOldOrBooted (sites_in c) (found c is)) (IsBeforeOrAfter c (turn_between false old.reads c Boot)) old new (λ i image was has. ⊎_elim
         (λ before. inl (stand_for c image before))
-        (λ (raisable, on). inr (subst (λ (u : Turn). ImageStandsFor u.condition image) (sym (turn_is quiet ∙ turn_up found raisable)) on)) has) within
+        (λ (raisable, on). inr (subst (λ (u : Turn). ImageStandsFor u.condition image) (sym (turn_is c is ∙ turn_up (found c is) raisable)) on)) has) (within c is)
+
+    -- and where one did
+    failed_within : (c : Condition) → IsIn state c old → Within 0 IsAnyStep (IsBeforeOrAfter c (turn_between true old.reads c Boot)) old new
+    failed_within c is =
+        weaker 0 IsAnyStep any_steps (IsOldOrBooted (sites_in c) (found c is)) (IsBeforeOrAfter c (turn_between true old.reads c Boot)) old new (λ i image was has. ⊎_elim
+        (λ before. inl (stand_for c image before))
+        (λ after. inr (failed_image c is image (inr after))) has) (within c is)
+
+    pub quiet_stop : IsQuiet old new → IsTurning state Boot old new
+    quiet_stop quiet = record { failed = false; cause = no_cause old.faults new.faults quiet.device; within = quiet_within }
+
+    pub failed_stop : Rises old.faults new.faults → IsTurning state Boot old new
+    failed_stop rises = record { failed = true; cause = its_cause old.faults new.faults rises; within = failed_within }
+
+    -- up again
+    pub booted_turn : IsQuiet old new → (m : Manager) → IsBooted m old new → AreOn m new → HasTurned state (states.Up m) Boot (ready (site_of m)) old new
+    booted_turn quiet m boot on = record {
+      failed = false;
+      cause = no_cause old.faults new.faults quiet.device;
+      answer = λ c is. sym (ap (λ (u : Turn). u.answer) (is_up c is m boot));
+      then = λ c is. subst (λ (u : Turn). IsIn (states.Up m) u.condition new) (sym (is_up c is m boot)) (record { site = refl; on = on });
+      within = quiet_within;
+    }
+
+    -- down at the last epoch
+    pub damaged_turned : IsQuiet old new → is_bootable (site_found 1 old.reads) ≡ false → ((image : List ℕ) → new.may_leave 0 image → image ≡ old.reads 0) → HasTurned state states.Down Boot (answers.Damaged 0) old new
+    damaged_turned quiet lost settled = record {
+      failed = false;
+      cause = no_cause old.faults new.faults quiet.device;
+      answer = λ c is. sym (ap (λ (u : Turn). u.answer) (is_damaged c is lost));
+      then = λ c is. damaged_in c is lost settled;
+      within = quiet_within;
+    }
 
     -- the device failed
-    module _ (rises : Rises old.faults new.faults) (lt : new.faults < last) where
-      has_failed : the_turn ≡ turn_at true (site_found 1 old.reads) c Boot
-      has_failed = ap (λ (b : Bool). turn_at b (site_found 1 old.reads) c Boot) (risen old.faults new.faults rises lt)
-
-      failed_image : (image : List ℕ) → IsOldOrBooted (sites_in c) found image → ImageStandsFor (turn_at true (site_found 1 old.reads) c Boot).condition image
-      failed_image image has = rose_image c old.reads found (site_found 1 old.reads) image is_found read_is has
-
-      pub failed_answer : answers.SystemError ≡ the_turn.answer
-      failed_answer = sym (ap (λ (u : Turn). u.answer) has_failed ∙ rose_answer c (site_found 1 old.reads))
-
-      pub failed_in : IsIn states.Down the_turn.condition new
-      failed_in = subst (λ (u : Turn). IsIn states.Down u.condition new) (sym has_failed) (rose_in c (site_found 1 old.reads) new (λ image may. failed_image image (within.own image may).now))
-
-      pub failed_stop : Within 0 IsAnyStep (IsBeforeOrAfter c the_turn) old new
-      failed_stop =
-          weaker 0 IsAnyStep any_steps (IsOldOrBooted (sites_in c) found) (IsBeforeOrAfter c the_turn) old new (λ i image was has. ⊎_elim
-          (λ before. inl (stand_for c image before))
-          (λ after. inr (subst (λ (u : Turn). ImageStandsFor u.condition image) (sym has_failed) (failed_image image (inr after)))) has) within
+    pub failed_turn : Rises old.faults new.faults → HasTurned state states.Down Boot answers.SystemError old new
+    failed_turn rises = record {
+      failed = true;
+      cause = its_cause old.faults new.faults rises;
+      answer = λ c is. sym (rose_answer c (site_found 1 old.reads));
+      then = λ c is. rose_in c (site_found 1 old.reads) new (λ image may. failed_image c is image ((within c is).own image may).now);
+      within = failed_within;
+    }

@@ -2,7 +2,8 @@
 use Rattle.std.proofs.Common.{◌≡◌, ◌≢◌, inl, inr, ◌<◌, ◌≤◌, ℕ, List, [], ◌∷◌, Option, Some, Bool, true, false, refl, sym, ◌∙◌, ap, subst, arith}
 use Rattle.std.specs.Prelude.{nat_lt}
 use Rattle.std.proofs.lemmas.Bool.Decides.{nat_tests}
-use Rattle.tq_host.specs.View.{View, last}
+use Rattle.tq_host.specs.View.{View}
+use Rattle.tq_host.specs.Calls.{HasCauseOf}
 use Rattle.tq_host.specs.Within.{Within}
 use Rattle.tq_host.proofs.Within.{weaker, starts}
 use Rattle.tq_model.specs.declared.answer.Answer.{Answer}
@@ -32,8 +33,15 @@ use Rattle.tq_run.proofs.Stopping.{any_steps}
 pub calm : (before now : ℕ) → now ≡ before → nat_lt before now ≡ false
 calm before now same = grind (arith, nat_tests)
 
-pub risen : (before now : ℕ) → Rises before now → now < last → nat_lt before now ≡ true
-risen before now rises below = let more : before < now = omega (arith, rises.rose, below) in grind (arith, nat_tests)
+-- no device failed, or one did
+pub no_cause : (before now : ℕ) → now ≡ before → HasCauseOf (◌≡◌ {A = Bool} false true) before now
+no_cause before now same = record { later = omega (arith, same); rose = λ e. absurd (unlike e); only = λ lt. absurd (omega (arith, lt, same)) }
+  where
+    unlike : false ≡ true → ⊥
+    unlike e = cc
+
+pub its_cause : (before now : ℕ) → Rises before now → HasCauseOf (◌≡◌ {A = Bool} true true) before now
+its_cause before now rises = record { later = rises.later; rose = λ e. rises.rose; only = λ lt. refl }
 
 -- Up
 
@@ -41,7 +49,7 @@ pub up_only : (m : Manager) (c : Condition) (v : View) → IsIn (states.Up m) c 
 up_only m (Up s) v is = (ap Up (sym is.site), is.on)
 up_only m (Down sites) v is = absurd is
 
-steady_is : (s : Site) (request : Request) → request ≢ Boot → steady_turn s request ≡ record { condition = Up (step s request).site; answer = (step s request).answer }
+pub steady_is : (s : Site) (request : Request) → request ≢ Boot → steady_turn s request ≡ record { condition = Up (step s request).site; answer = (step s request).answer }
 steady_is s Nothing ne = refl
 steady_is s Boot ne = absurd (ne refl)
 steady_is s (Bad column) ne = refl
@@ -49,12 +57,6 @@ steady_is s TooLong ne = refl
 steady_is s (Device request) ne = refl
 steady_is s (Space request) ne = refl
 steady_is s (Call request) ne = refl
-
-pub steady_between : (s : Site) (r : Request) (before now : ℕ) (reads : ℕ → List ℕ) → r ≢ Boot → now ≡ before → turn_between before now reads (Up s) r ≡ record { condition = Up (step s r).site; answer = (step s r).answer }
-steady_between s r before now reads ne same = ap (λ (b : Bool). turn_at b (site_found 1 reads) (Up s) r) (calm before now same) ∙ steady_is s r ne
-
-pub failing_between : (s : Site) (r : Request) (before now : ℕ) (reads : ℕ → List ℕ) → Rises before now → now < last → turn_between before now reads (Up s) r ≡ failing_turn s r
-failing_between s r before now reads rises below = ap (λ (b : Bool). turn_at b (site_found 1 reads) (Up s) r) (risen before now rises below)
 
 -- the pictures of a line in which nothing failed, and of one in which a device did
 pub steady_pictures : (s : Site) (r : Request) (t : Turn) (a b : View) → t ≡ record { condition = Up (step s r).site; answer = (step s r).answer }
@@ -92,9 +94,9 @@ down_is rose found sites (Space request) ne = refl
 down_is rose found sites (Call request) ne = refl
 
 -- the turn of a line while there is no site
-pub down_between : (c : Condition) (r : Request) (before now : ℕ) (reads : ℕ → List ℕ) (v : View) → r ≢ Boot → IsIn states.Down c v → turn_between before now reads c r ≡ record { condition = c; answer = down_answer r }
-down_between (Up s) r before now reads v ne is = absurd is
-down_between (Down sites) r before now reads v ne is = down_is (nat_lt before now) (site_found 1 reads) sites r ne
+pub down_between : (c : Condition) (r : Request) (failed : Bool) (reads : ℕ → List ℕ) (v : View) → r ≢ Boot → IsIn states.Down c v → turn_between failed reads c r ≡ record { condition = c; answer = down_answer r }
+down_between (Up s) r failed reads v ne is = absurd is
+down_between (Down sites) r failed reads v ne is = down_is failed (site_found 1 reads) sites r ne
 
 pub down_images : (c : Condition) (v : View) (image : List ℕ) → IsIn states.Down c v → v.may_leave 0 image → ImageStandsFor c image
 down_images (Up s) v image is may = absurd is
@@ -125,64 +127,70 @@ module _ (m : Manager) (request : Request) (a b : View) (ne : request ≢ Boot) 
   abbrev s : Site
   s = site_of m
 
+  -- the pictures where no device failed, and where one did
+  within_up : (AreOn m a → Within 0 IsAnyStep (IsEither (site_of m) (step (site_of m) request).site) a b) → (c : Condition) → IsIn (states.Up m) c a → Within 0 IsAnyStep (IsBeforeOrAfter c (turn_between false a.reads c request)) a b
+  within_up stop c is =
+      let up = up_only m c a is in
+      subst (λ (x : Condition). Within 0 IsAnyStep (IsBeforeOrAfter x (turn_between false a.reads x request)) a b) (sym up.0)
+      (steady_pictures s request (turn_between false a.reads (Up (site_of m)) request) a b (steady_is s request ne) (stop up.1))
+
+  within_down : (AreOn m a → Within 0 IsAnyStep (IsEither (site_of m) (step (site_of m) request).site) a b) → (c : Condition) → IsIn (states.Up m) c a → Within 0 IsAnyStep (IsBeforeOrAfter c (turn_between true a.reads c request)) a b
+  within_down stop c is =
+      let up = up_only m c a is in
+      subst (λ (x : Condition). Within 0 IsAnyStep (IsBeforeOrAfter x (turn_between true a.reads x request)) a b) (sym up.0)
+      (failing_pictures s request (turn_between true a.reads (Up (site_of m)) request) a b refl (stop up.1))
+
   -- done, and no device failed
   pub served : (m' : Manager) (answer : Answer) → b.faults ≡ a.faults → answer ≡ (step (site_of m) request).answer → site_of m' ≡ (step (site_of m) request).site → (AreOn m a → AreOn m' b)
-      → HasTurned (states.Up m) (states.Up m') request answer a b
-  served m' answer same said site on = record {
+      → (AreOn m a → Within 0 IsAnyStep (IsEither (site_of m) (step (site_of m) request).site) a b) → HasTurned (states.Up m) (states.Up m') request answer a b
+  served m' answer same said site on stop = record {
+    failed = false;
+    cause = no_cause a.faults b.faults same;
     answer = λ c is.
         let up = up_only m c a is in
-        subst (λ (x : Condition). answer ≡ (turn_between a.faults b.faults a.reads x request).answer) (sym up.0) (said ∙ ap (λ (t : Turn). t.answer) (sym (steady_between s request a.faults b.faults a.reads ne same)));
+        subst (λ (x : Condition). answer ≡ (turn_between false a.reads x request).answer) (sym up.0) (said ∙ ap (λ (t : Turn). t.answer) (sym (steady_is s request ne)));
     then = λ c is.
         let up = up_only m c a is in
-        subst (λ (x : Condition). IsIn (states.Up m') (turn_between a.faults b.faults a.reads x request).condition b) (sym up.0)
-        (subst (λ (t : Turn). IsIn (states.Up m') t.condition b) (sym (steady_between s request a.faults b.faults a.reads ne same)) (record { site = site; on = on up.1 }));
+        subst (λ (x : Condition). IsIn (states.Up m') (turn_between false a.reads x request).condition b) (sym up.0)
+        (subst (λ (t : Turn). IsIn (states.Up m') t.condition b) (sym (steady_is s request ne)) (record { site = site; on = on up.1 }));
+    within = within_up stop;
   }
 
   pub serving : b.faults ≡ a.faults → (AreOn m a → Within 0 IsAnyStep (IsEither (site_of m) (step (site_of m) request).site) a b) → IsTurning (states.Up m) request a b
-  serving same stop = record {
-    within = λ c is.
-        let up = up_only m c a is in
-        subst (λ (x : Condition). Within 0 IsAnyStep (IsBeforeOrAfter x (turn_between a.faults b.faults a.reads x request)) a b) (sym up.0)
-        (steady_pictures s request (turn_between a.faults b.faults a.reads (Up (site_of m)) request) a b (steady_between s request a.faults b.faults a.reads ne same) (stop up.1));
-  }
+  serving same stop = record { failed = false; cause = no_cause a.faults b.faults same; within = within_up stop }
 
   -- a device failed
-  pub failed : Rises a.faults b.faults → b.faults < last → (AreOn m a → Within 0 IsAnyStep (IsEither (site_of m) (step (site_of m) request).site) a b) → HasTurned (states.Up m) states.Down request answers.SystemError a b
-  failed rises below stop = record {
-    answer = λ c is.
-        let up = up_only m c a is in
-        subst (λ (x : Condition). answers.SystemError ≡ (turn_between a.faults b.faults a.reads x request).answer) (sym up.0) (ap (λ (t : Turn). t.answer) (sym (failing_between s request a.faults b.faults a.reads rises below)));
+  pub failed : Rises a.faults b.faults → (AreOn m a → Within 0 IsAnyStep (IsEither (site_of m) (step (site_of m) request).site) a b) → HasTurned (states.Up m) states.Down request answers.SystemError a b
+  failed rises stop = record {
+    failed = true;
+    cause = its_cause a.faults b.faults rises;
+    answer = λ c is. let up = up_only m c a is in subst (λ (x : Condition). answers.SystemError ≡ (turn_between true a.reads x request).answer) (sym up.0) refl;
     then = λ c is.
         let up = up_only m c a is in
-        subst (λ (x : Condition). IsIn states.Down (turn_between a.faults b.faults a.reads x request).condition b) (sym up.0)
-        (subst (λ (t : Turn). IsIn states.Down t.condition b) (sym (failing_between s request a.faults b.faults a.reads rises below)) (failed_images s request a b (stop up.1)));
+        subst (λ (x : Condition). IsIn states.Down (turn_between true a.reads x request).condition b) (sym up.0) (failed_images s request a b (stop up.1));
+    within = within_down stop;
   }
 
-  pub failing : Rises a.faults b.faults → b.faults < last → (AreOn m a → Within 0 IsAnyStep (IsEither (site_of m) (step (site_of m) request).site) a b) → IsTurning (states.Up m) request a b
-  failing rises below stop = record {
-    within = λ c is.
-        let up = up_only m c a is in
-        subst (λ (x : Condition). Within 0 IsAnyStep (IsBeforeOrAfter x (turn_between a.faults b.faults a.reads x request)) a b) (sym up.0)
-        (failing_pictures s request (turn_between a.faults b.faults a.reads (Up (site_of m)) request) a b (failing_between s request a.faults b.faults a.reads rises below) (stop up.1));
-  }
+  pub failing : Rises a.faults b.faults → (AreOn m a → Within 0 IsAnyStep (IsEither (site_of m) (step (site_of m) request).site) a b) → IsTurning (states.Up m) request a b
+  failing rises stop = record { failed = true; cause = its_cause a.faults b.faults rises; within = within_down stop }
 
   -- it ended without an answer
-  pub ended : (stop : Stop) → StopCounts stop a b → (stop ≢ Memory → stop ≡ Failed) → b.faults < last → (AreOn m a → Within 0 IsAnyStep (IsEither (site_of m) (step (site_of m) request).site) a b) → IsTurning (states.Up m) request a b
-  ended Memory counts two below stop = serving counts.device stop
-  ended Failed counts two below stop = failing counts.device below stop
-  ended Damaged counts two below stop = absurd (unlike (two (λ e. cc)))
+  pub ended : (stop : Stop) → StopCounts stop a b → (stop ≢ Memory → stop ≡ Failed) → (AreOn m a → Within 0 IsAnyStep (IsEither (site_of m) (step (site_of m) request).site) a b) → IsTurning (states.Up m) request a b
+  ended Memory counts two stop = serving counts.device stop
+  ended Failed counts two stop = failing counts.device stop
+  ended Damaged counts two stop = absurd (unlike (two (λ e. cc)))
     where
       unlike : Damaged ≡ Failed → ⊥
       unlike e = cc
-  ended Input counts two below stop = absurd (unlike (two (λ e. cc)))
+  ended Input counts two stop = absurd (unlike (two (λ e. cc)))
     where
       unlike : Input ≡ Failed → ⊥
       unlike e = cc
-  ended Output counts two below stop = absurd (unlike (two (λ e. cc)))
+  ended Output counts two stop = absurd (unlike (two (λ e. cc)))
     where
       unlike : Output ≡ Failed → ⊥
       unlike e = cc
-  ended TooMuchInput counts two below stop = absurd (unlike (two (λ e. cc)))
+  ended TooMuchInput counts two stop = absurd (unlike (two (λ e. cc)))
     where
       unlike : TooMuchInput ≡ Failed → ⊥
       unlike e = cc
@@ -207,9 +215,12 @@ quiet_unless TooMuchInput a b counts other = counts.device
 -- and one while there is no site
 pub refused : (request : Request) (a : View) → request ≢ Boot → HasTurned states.Down states.Down request (down_answer request) a a
 refused request a ne = record {
-  answer = λ c is. ap (λ (t : Turn). t.answer) (sym (down_between c request a.faults a.faults a.reads a ne is));
-  then = λ c is. subst (λ (t : Turn). IsIn states.Down t.condition a) (sym (down_between c request a.faults a.faults a.reads a ne is)) is;
+  failed = false;
+  cause = no_cause a.faults a.faults refl;
+  answer = λ c is. ap (λ (t : Turn). t.answer) (sym (down_between c request false a.reads a ne is));
+  then = λ c is. subst (λ (t : Turn). IsIn states.Down t.condition a) (sym (down_between c request false a.reads a ne is)) is;
+  within = λ c is. down_pictures c (turn_between false a.reads c request) a is;
 }
 
 pub refusing : (request : Request) (a : View) → IsTurning states.Down request a a
-refusing request a = record { within = λ c is. down_pictures c (turn_between a.faults a.faults a.reads c request) a is }
+refusing request a = record { failed = false; cause = no_cause a.faults a.faults refl; within = λ c is. down_pictures c (turn_between false a.reads c request) a is }

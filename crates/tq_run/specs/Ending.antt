@@ -4,12 +4,13 @@ use Rattle.tq_host.specs.View.{View, Stamp, Told}
 use Rattle.tq_model.specs.declared.request.Request.TheVariants.{Boot}
 use Rattle.tq_model.specs.Site.{Site}
 use Rattle.tq_model.specs.Grammar.{script_requests}
-use Rattle.tq_model.specs.Faulty.{Trace, Progress, beginning, after, rose_at, StandForState}
+use Rattle.tq_model.specs.Faulty.{Trace, Failures, Progress, beginning, after, rose_at, StandForState}
 use Rattle.tq_model.specs.Reading.{site_found}
 use Rattle.tq_run.specs.declared.status.Status.{Status}
 use Rattle.tq_run.specs.declared.status.Status.TheVariants as status
 use Rattle.tq_run.specs.declared.status.Stop.{Stop}
 use Rattle.tq_run.specs.declared.status.Stop.TheVariants.{Damaged, Memory, Input, Output, Device, TooMuchInput}
+use Rattle.tq_run.specs.Failures.{AreFailures}
 use Rattle.tq_run.specs.Manager.{is_bootable}
 
 -- what the host tells of a run over one device, in which these stamps came
@@ -17,16 +18,18 @@ abbrev pub trace_of : View → View → List Stamp → Trace
 trace_of start now added = record { devices = 1; before = start.faults; counts = map (λ (s : Stamp). s.faults) added; reads = map (λ (s : Stamp). s.reads) added; after = now.faults }
 
 -- the machine at the end of a run over a script, line 0 being a boot of the site that was found
-abbrev pub machine_at_end : Trace → Site → List ℕ → Progress
-machine_at_end trace found script = after trace (beginning found) (Boot ∷ script_requests script)
+abbrev pub machine_at_end : Trace → Failures → Site → List ℕ → Progress
+machine_at_end trace failed found script = after trace failed (beginning found) (Boot ∷ script_requests script)
 
 -- A run that is done: the script is read to its end, the output is the machine's text, and the devices stand for its state.
 pub record IsDone (start now : View) (found : Site) : Type 0 where
   pub added : List Stamp
   pub stamps : now.streams.stamps ≡ start.streams.stamps ++ added
+  pub failed : Failures
+  pub failures : AreFailures (trace_of start now added) failed
   pub script : now.streams.script ≡ []
-  pub output : now.streams.output ≡ start.streams.output ++ (machine_at_end (trace_of start now added) found start.streams.script).text
-  pub devices : StandForState 1 now.reads (machine_at_end (trace_of start now added) found start.streams.script).condition
+  pub output : now.streams.output ≡ start.streams.output ++ (machine_at_end (trace_of start now added) failed found start.streams.script).text
+  pub devices : StandForState 1 now.reads (machine_at_end (trace_of start now added) failed found start.streams.script).condition
 
 -- nothing was written and nothing given
 pub record IsUntouched (start now : View) : Type 0 where

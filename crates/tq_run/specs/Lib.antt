@@ -3,6 +3,7 @@ pub mod Words
 pub mod Manager
 pub mod Input
 pub mod Output
+pub mod Failures
 pub mod Ending
 pub mod Stops
 pub mod Spaces

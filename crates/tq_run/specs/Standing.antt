@@ -1,18 +1,20 @@
 -- The state of a run in memory and on the device.
-use Rattle.std.specs.Prelude.{◌≡◌, ◌≤◌, ℕ, List, length}
-use Rattle.tq_host.specs.View.{View}
-use Rattle.tq_host.specs.Within.{Within}
+use Rattle.std.specs.Prelude.{◌≡◌, ◌≤◌, ℕ, Bool, true, List, [], ◌∷◌, length}
+use Rattle.tq_host.specs.View.{View, IsSettled}
+use Rattle.tq_host.specs.Calls.{HasCauseOf}
+use Rattle.tq_host.specs.Within.{Within, Ran}
 use Rattle.tq_device.specs.Content.{IsAnyStep}
 use Rattle.tq_model.specs.declared.answer.Answer.{Answer}
 use Rattle.tq_model.specs.declared.request.Request.{Request}
+use Rattle.tq_model.specs.declared.request.Request.TheVariants.{Boot}
 use Rattle.tq_model.specs.Site.{Site}
-use Rattle.tq_model.specs.Faulty.{Condition, Up, Down}
+use Rattle.tq_model.specs.Faulty.{Condition, Failures, Up, Down}
 use Rattle.tq_run.specs.declared.manager.Manager.{Manager}
 use Rattle.tq_run.specs.declared.state.State.{State}
 use Rattle.tq_run.specs.declared.state.State.TheVariants as states
 use Rattle.tq_run.specs.Manager.{site_of, IsOn, IsFit}
 use Rattle.tq_run.specs.Stops.{AreOn}
-use Rattle.tq_run.specs.Turns.{ImageStandsFor, IsBeforeOrAfter, turn_between, Origin, IsAnswered}
+use Rattle.tq_run.specs.Turns.{ImageStandsFor, IsBeforeOrAfter, turn_between, Origin, origin_of, IsAnswered, IsOfLines, GoesOn}
 
 -- up with this site
 pub record IsUp (m : Manager) (s : Site) (v : View) : Type 0 where
@@ -41,18 +43,37 @@ abbrev pub IsHeld : State → List ℕ → Type 0
 IsHeld (states.Up m) image = IsOn m image
 IsHeld states.Down image = Unit {0}
 
--- What a line came to: the answer of the machine's turn from the state's condition, and a state with the condition after it.
+-- What a line came to: the answer of the machine's turn from the state's condition, and a state with the condition after it;
+-- in each picture of the line the device stands for the condition before the turn, or after it.
 pub record HasTurned (state state' : State) (request : Request) (a : Answer) (old new : View) : Type 0 where
-  pub answer : (c : Condition) → IsIn state c old → a ≡ (turn_between old.faults new.faults old.reads c request).answer
-  pub then : (c : Condition) → IsIn state c old → IsIn state' (turn_between old.faults new.faults old.reads c request).condition new
+  pub failed : Bool
+  pub cause : HasCauseOf (failed ≡ true) old.faults new.faults
+  pub answer : (c : Condition) → IsIn state c old → a ≡ (turn_between failed old.reads c request).answer
+  pub then : (c : Condition) → IsIn state c old → IsIn state' (turn_between failed old.reads c request).condition new
+  pub within : (c : Condition) → IsIn state c old → Within 0 IsAnyStep (IsBeforeOrAfter c (turn_between failed old.reads c request)) old new
 
--- in each picture of a line the device stands for the condition before its turn, or after it
+-- the same of a line that came to no answer
 pub record IsTurning (state : State) (request : Request) (old new : View) : Type 0 where
-  pub within : (c : Condition) → IsIn state c old → Within 0 IsAnyStep (IsBeforeOrAfter c (turn_between old.faults new.faults old.reads c request)) old new
+  pub failed : Bool
+  pub cause : HasCauseOf (failed ≡ true) old.faults new.faults
+  pub within : (c : Condition) → IsIn state c old → Within 0 IsAnyStep (IsBeforeOrAfter c (turn_between failed old.reads c request)) old new
 
 -- so far is a run whose state is this one
-pub record HasReached (o : Origin) (found : Site) (done : List Request) (state : State) (now : View) : Type 0 where
+pub record HasReached (o : Origin) (found : Site) (failed : Failures) (done : List Request) (state : State) (now : View) : Type 0 where
   pub condition : Condition
-  pub answered : IsAnswered o now found done condition
+  pub answered : IsAnswered o now found failed done condition
   pub is : IsIn state condition now
   pub some : 1 ≤ length done
+
+-- a part of a run at whose end these requests are answered, and its pictures
+pub record HasRun (o : Origin) (found : Site) (failed : Failures) (done : List Request) (state : State) (old new : View) : Type 0 where
+  pub since : Failures
+  pub on : GoesOn o old failed since
+  pub reached : HasReached o found since done state new
+  pub ran : Ran (IsOfLines o new found since done) old new
+
+-- The first line is answered. Its pictures are of it where nothing was pending when it began.
+pub record HasStarted (found : Site) (state : State) (old new : View) : Type 0 where
+  pub failed : Failures
+  pub reached : HasReached (origin_of old) found failed (Boot ∷ []) state new
+  pub ran : IsSettled 0 old → Ran (IsOfLines (origin_of old) new found failed (Boot ∷ [])) old new

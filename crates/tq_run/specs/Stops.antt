@@ -7,8 +7,9 @@ use Rattle.tq_model.specs.Step.{can_boot, booted}
 use Rattle.tq_run.specs.declared.manager.Manager.{Manager}
 use Rattle.tq_run.specs.Manager.{IsOn}
 use Rattle.tq_model.specs.Grammar.{script_requests}
-use Rattle.tq_model.specs.Faulty.{StandForState, machine_after}
+use Rattle.tq_model.specs.Faulty.{Trace, Failures, StandForState, machine_after}
 use Rattle.tq_run.specs.Ending.{trace_of}
+use Rattle.tq_run.specs.Failures.{AreFailures}
 
 -- an image of device 0 stands for a site
 abbrev pub ImageStands : Site → List ℕ → Type 0
@@ -40,12 +41,19 @@ pub record IsWaiting (start : View) (p : Picture) : Type 0 where
 
 -- A picture of a run: after some number of whole lines, line 0 being the first, the device stands for the machine's state, and
 -- the output is a first part of the text of these lines that has all but an end of the last one.
-pub record IsOfRun (start now : View) (found : Site) (p : Picture) : Type 0 where
-  pub added : List Stamp
-  pub stamps : now.streams.stamps ≡ start.streams.stamps ++ added
+pub record IsOfRun (start : View) (trace : Trace) (failed : Failures) (found : Site) (p : Picture) : Type 0 where
   pub lines : ℕ
   pub within : lines ≤ 1 + length (script_requests start.streams.script)
-  pub stand : StandForState 1 p.images (machine_after (trace_of start now added) found (script_requests start.streams.script) lines).condition
+  pub stand : StandForState 1 p.images (machine_after trace failed found (script_requests start.streams.script) lines).condition
   pub given : ℕ
-  pub gave : p.output ≡ start.streams.output ++ take given (machine_after (trace_of start now added) found (script_requests start.streams.script) lines).text
-  pub answered : length (machine_after (trace_of start now added) found (script_requests start.streams.script) (lines - 1)).text ≤ given
+  pub gave : p.output ≡ start.streams.output ++ take given (machine_after trace failed found (script_requests start.streams.script) lines).text
+  pub answered : length (machine_after trace failed found (script_requests start.streams.script) (lines - 1)).text ≤ given
+
+-- What stops leave of a run: by what the host tells there are the steps in which a device failed, and each picture is one of
+-- the machine in which these fail.
+pub record IsCrashSafe (start now : View) (found : Site) : Type 0 where
+  pub added : List Stamp
+  pub stamps : now.streams.stamps ≡ start.streams.stamps ++ added
+  pub failed : Failures
+  pub failures : AreFailures (trace_of start now added) failed
+  pub pictures : (p : Picture) → now.left_since start.clock p → IsOfRun start (trace_of start now added) failed found p

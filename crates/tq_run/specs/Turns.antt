@@ -1,10 +1,12 @@
 -- Lines of a run, by what the host tells: the machine with faults after those that are answered, and the pictures of a part of the run.
-use Rattle.std.specs.Prelude.{◌≡◌, ◌⊎◌, ◌≤◌, ℕ, ◌-◌, nat_lt, List, ◌++◌, length, map, take}
+use Rattle.std.specs.Prelude.{◌≡◌, ◌⊎◌, ◌<◌, ◌≤◌, ℕ, ◌+◌, ◌-◌, Bool, false, List, ◌++◌, length, map, take}
 use Rattle.tq_host.specs.View.{View, Stamp, Picture}
+use Rattle.tq_host.specs.Within.{Ran}
 use Rattle.tq_model.specs.declared.request.Request.{Request}
 use Rattle.tq_model.specs.Site.{Site}
 use Rattle.tq_model.specs.Reading.{site_found}
-use Rattle.tq_model.specs.Faulty.{Condition, Trace, Turn, Progress, count_before, found_at, turn_at, beginning, after, StandForState}
+use Rattle.tq_model.specs.Faulty.{Condition, Trace, Failures, Turn, Progress, count_before, found_at, turn_at, beginning, after, StandForState}
+use Rattle.tq_run.specs.Failures.{AreFailures}
 
 -- One line
 
@@ -12,9 +14,9 @@ use Rattle.tq_model.specs.Faulty.{Condition, Trace, Turn, Progress, count_before
 abbrev pub ImageStandsFor : Condition → List ℕ → Type 0
 ImageStandsFor c image = StandForState 1 (λ d. image) c
 
--- the turn of a request: the device count when it began and when it was done, and what device 0 read before it
-abbrev pub turn_between : ℕ → ℕ → (ℕ → List ℕ) → Condition → Request → Turn
-turn_between before now reads c request = turn_at (nat_lt before now) (site_found 1 reads) c request
+-- the turn of a request: whether a device failed in it, and what device 0 read before it
+abbrev pub turn_between : Bool → (ℕ → List ℕ) → Condition → Request → Turn
+turn_between failed reads c request = turn_at failed (site_found 1 reads) c request
 
 -- an image stands for the condition before a turn, or after it
 abbrev pub IsBeforeOrAfter : Condition → Turn → List ℕ → Type 0
@@ -35,28 +37,46 @@ origin_of v = record { faults = v.faults; output = v.streams.output; stamps = v.
 abbrev pub trace_from : Origin → ℕ → List Stamp → Trace
 trace_from o now added = record { devices = 1; before = o.faults; counts = map (λ (s : Stamp). s.faults) added; reads = map (λ (s : Stamp). s.reads) added; after = now }
 
--- the machine after these requests, by what was told
-abbrev pub told_after : Origin → ℕ → List Stamp → Site → List Request → Progress
-told_after o now added found done = after (trace_from o now added) (beginning found) done
+-- the machine after these requests, by what was told and the steps that failed
+abbrev pub told_after : Origin → ℕ → List Stamp → Failures → Site → List Request → Progress
+told_after o now added failed found done = after (trace_from o now added) failed (beginning found) done
 
 -- All of these requests are answered, and nothing was done since: the machine has this condition, and the output is its text.
-pub record IsAnswered (o : Origin) (now : View) (found : Site) (done : List Request) (c : Condition) : Type 0 where
+pub record IsAnswered (o : Origin) (now : View) (found : Site) (failed : Failures) (done : List Request) (c : Condition) : Type 0 where
   pub added : List Stamp
   pub stamps : now.streams.stamps ≡ o.stamps ++ added
-  pub condition : (told_after o now.faults added found done).condition ≡ c
-  pub output : now.streams.output ≡ o.output ++ (told_after o now.faults added found done).text
-  pub long : length added ≡ length (told_after o now.faults added found done).text
+  pub failures : AreFailures (trace_from o now.faults added) failed
+  pub condition : (told_after o now.faults added failed found done).condition ≡ c
+  pub output : now.streams.output ≡ o.output ++ (told_after o now.faults added failed found done).text
+  pub long : length added ≡ length (told_after o now.faults added failed found done).text
   pub count : count_before (trace_from o now.faults added) (length added) ≡ now.faults
   pub stood : 1 ≤ length added → found_at (trace_from o now.faults added) (length added) ≡ site_found 1 now.reads
 
 -- A picture of a run: after some number of these requests the device stands for the machine's condition, and the output is a
 -- first part of the text of these that has all but an end of the last one.
-pub record IsOfLines (o : Origin) (now : View) (found : Site) (requests : List Request) (p : Picture) : Type 0 where
+pub record IsOfLines (o : Origin) (now : View) (found : Site) (failed : Failures) (requests : List Request) (p : Picture) : Type 0 where
   pub added : List Stamp
   pub stamps : now.streams.stamps ≡ o.stamps ++ added
   pub lines : ℕ
   pub within : lines ≤ length requests
-  pub stand : StandForState 1 p.images (told_after o now.faults added found (take lines requests)).condition
+  pub stand : StandForState 1 p.images (told_after o now.faults added failed found (take lines requests)).condition
   pub given : ℕ
-  pub gave : p.output ≡ o.output ++ take given (told_after o now.faults added found (take lines requests)).text
-  pub answered : length (told_after o now.faults added found (take (lines - 1) requests)).text ≤ given
+  pub gave : p.output ≡ o.output ++ take given (told_after o now.faults added failed found (take lines requests)).text
+  pub answered : length (told_after o now.faults added failed found (take (lines - 1) requests)).text ≤ given
+
+-- where nothing is done yet
+abbrev pub none_failed : Failures
+none_failed at = false
+
+-- of the steps whose text had begun at this moment, both say the same
+abbrev pub GoesOn : Origin → View → Failures → Failures → Type 0
+GoesOn o v failed since = (at : ℕ) → length o.stamps + at < length v.streams.stamps → since at ≡ failed at
+
+-- A part of a run, with these requests at its end: the steps in which a device failed since, and the pictures by that.
+pub record RunsOver (o : Origin) (found : Site) (failed : Failures) (requests : List Request) (old new : View) : Type 0 where
+  pub since : Failures
+  pub on : GoesOn o old failed since
+  pub added : List Stamp
+  pub stamps : new.streams.stamps ≡ o.stamps ++ added
+  pub failures : AreFailures (trace_from o new.faults added) since
+  pub ran : Ran (IsOfLines o new found since requests) old new

@@ -1,12 +1,10 @@
 ghost use Rattle.std.specs.Prelude.{◌≡◌, ◌≢◌, ◌<◌, ◌≤◌, ◌+◌, ℕ, IfOk, IfErr, OnOk};
-ghost use Rattle.tq_host.specs.View.{TellsAll, last};
-ghost use Rattle.tq_host.specs.Within.{KeepsRest, Within};
+ghost use Rattle.tq_host.specs.View.{TellsAll};
+ghost use Rattle.tq_host.specs.Within.{KeepsRest};
 ghost use Rattle.tq_model.specs.declared.request.Request.{Request};
 ghost use Rattle.tq_model.specs.declared.request.Request.TheVariants as requests;
-ghost use Rattle.tq_model.specs.Faulty.{Condition, down_answer};
-ghost use Rattle.tq_device.specs.Content.{IsAnyStep};
-ghost use Rattle.tq_run.specs.Turns.{turn_between, IsBeforeOrAfter};
-ghost use Rattle.tq_run.specs.Standing.{IsIn, IsSound, next_of, IsHeld, HasTurned, IsTurning};
+ghost use Rattle.tq_model.specs.Faulty.{down_answer};
+ghost use Rattle.tq_run.specs.Standing.{IsSound, next_of, IsHeld, HasTurned, IsTurning};
 
 use crate::devices::readiness;
 use crate::manager::boot;
@@ -37,12 +35,8 @@ fn reboot<H: Host>(alloc: Global, host: &mut H, state: &mut State) -> Result<Ans
     ensures sound { OnOk result (IsSound state.new) }
     ensures next { OnOk result (next_of state.new ≡ 0) }
     ensures holds { OnOk result (H.tells.reads → IsHeld state.new ((H.view host.new).reads 0)) }
-    ensures answer { IfOk result (λ a. TellsAll H.tells → (H.view host.new).faults < last → (c : Condition) → IsIn state.old c (H.view host.old)
-        → a ≡ (turn_between (H.view host.old).faults (H.view host.new).faults (H.view host.old).reads c requests.Boot).answer) }
-    ensures state { OnOk result (TellsAll H.tells → (H.view host.new).faults < last → (c : Condition) → IsIn state.old c (H.view host.old)
-        → IsIn state.new (turn_between (H.view host.old).faults (H.view host.new).faults (H.view host.old).reads c requests.Boot).condition (H.view host.new)) }
-    ensures stop { TellsAll H.tells → (H.view host.new).faults < last → (c : Condition) → IsIn state.old c (H.view host.old)
-        → Within 0 IsAnyStep (IsBeforeOrAfter c (turn_between (H.view host.old).faults (H.view host.new).faults (H.view host.old).reads c requests.Boot)) (H.view host.old) (H.view host.new) }
+    ensures turned { IfOk result (λ a. TellsAll H.tells → HasTurned state.old state.new requests.Boot a (H.view host.old) (H.view host.new)) }
+    ensures stop { TellsAll H.tells → IsTurning state.old requests.Boot (H.view host.old) (H.view host.new) }
     ensures later { (H.view host.old).faults ≤ (H.view host.new).faults }
     ensures rest { KeepsRest 0 (H.view host.old) (H.view host.new) }
     ensures only { IfErr result (λ e. e ≡ Stop.Memory) }
@@ -81,8 +75,8 @@ fn serve_standing<H: Host>(
     ensures sound { OnOk result (IsSound state.new) }
     ensures next { OnOk result (next_of state.new ≤ next_of state.old + 1) }
     ensures holds { OnOk result (H.tells.reads → IsHeld state.new ((H.view host.new).reads 0)) }
-    ensures turned { IfOk result (λ a. TellsAll H.tells → (H.view host.new).faults < last → HasTurned state.old state.new request a (H.view host.old) (H.view host.new)) }
-    ensures stop { TellsAll H.tells → (H.view host.new).faults < last → IsTurning state.old request (H.view host.old) (H.view host.new) }
+    ensures turned { IfOk result (λ a. TellsAll H.tells → HasTurned state.old state.new request a (H.view host.old) (H.view host.new)) }
+    ensures stop { TellsAll H.tells → IsTurning state.old request (H.view host.old) (H.view host.new) }
     ensures later { (H.view host.old).faults ≤ (H.view host.new).faults }
     ensures rest { KeepsRest 0 (H.view host.old) (H.view host.new) }
     ensures only { IfErr result (λ e. e ≡ Stop.Memory) }
@@ -115,8 +109,8 @@ pub fn respond<H: Host>(
     ensures sound { OnOk result (IsSound state.new) }
     ensures next { OnOk result (next_of state.new ≤ next_of state.old + 1) }
     ensures holds { OnOk result (H.tells.reads → IsHeld state.new ((H.view host.new).reads 0)) }
-    ensures turned { IfOk result (λ a. TellsAll H.tells → (H.view host.new).faults < last → HasTurned state.old state.new request a (H.view host.old) (H.view host.new)) }
-    ensures stop { TellsAll H.tells → (H.view host.new).faults < last → IsTurning state.old request (H.view host.old) (H.view host.new) }
+    ensures turned { IfOk result (λ a. TellsAll H.tells → HasTurned state.old state.new request a (H.view host.old) (H.view host.new)) }
+    ensures stop { TellsAll H.tells → IsTurning state.old request (H.view host.old) (H.view host.new) }
     ensures later { (H.view host.old).faults ≤ (H.view host.new).faults }
     ensures rest { KeepsRest 0 (H.view host.old) (H.view host.new) }
     ensures only { IfErr result (λ e. e ≡ Stop.Memory) }

@@ -1,14 +1,13 @@
 ghost use Rattle.std.specs.Prelude.{◌≡◌, ◌≢◌, ◌⊎◌, ◌<◌, ◌≤◌, ◌+◌, ◌++◌, ◌↔◌, true, false, [], ◌∷◌, List, ℕ, map, string_bytes, IfOk, OnOk, OnErr, IfErr, None, Some};
 ghost use Rattle.tq_host.specs.Calls.{HasCauseOf, Rose};
-ghost use Rattle.tq_host.specs.View.{TellsAll, Picture, Stamp, IsSettled, last};
-ghost use Rattle.tq_host.specs.Within.{Ran};
+ghost use Rattle.tq_host.specs.View.{TellsAll, Stamp, IsSettled};
 ghost use Rattle.tq_model.specs.Step.{can_boot};
-ghost use Rattle.tq_model.specs.Faulty.{rose_at};
+ghost use Rattle.tq_model.specs.Faulty.{Failures, rose_at};
 ghost use Rattle.tq_model.specs.declared.request.Request.{Request};
 ghost use Rattle.tq_model.specs.declared.request.Request.TheVariants as requests;
-ghost use Rattle.tq_run.specs.Stops.{IsOfRun};
-ghost use Rattle.tq_run.specs.Turns.{Origin, origin_of, IsOfLines};
-ghost use Rattle.tq_run.specs.Standing.{IsSound, next_of, IsHeld, HasReached};
+ghost use Rattle.tq_run.specs.Stops.{IsCrashSafe};
+ghost use Rattle.tq_run.specs.Turns.{Origin, origin_of, none_failed, RunsOver};
+ghost use Rattle.tq_run.specs.Standing.{IsSound, next_of, IsHeld, HasReached, HasRun, HasStarted};
 ghost use Rattle.tq_model.specs.Site.{Site};
 ghost use Rattle.tq_model.specs.Grammar.{script_requests};
 ghost use Rattle.tq_model.specs.Reading.{site_found};
@@ -45,10 +44,10 @@ fn answer_script<H: Host>(
     requires first { next_of state.old ≡ 0 }
     requires holds { H.tells.reads → IsHeld state.old ((H.view host.old).reads 0) }
     ensures left { OnOk result (H.tells.script → (H.view host.new).streams.script ≡ []) }
-    ensures reached { OnOk result (TellsAll H.tells → (H.view host.new).faults < last → (o : Origin) (found : Site) (first : Request)
-        → HasReached o found (first ∷ []) state.old (H.view host.old) → HasReached o found (first ∷ script_requests (H.view host.old).streams.script) state.new (H.view host.new)) }
-    ensures stop { TellsAll H.tells → (H.view host.new).faults < last → (o : Origin) (found : Site) (first : Request)
-        → HasReached o found (first ∷ []) state.old (H.view host.old) → Ran (IsOfLines o (H.view host.new) found (first ∷ script_requests (H.view host.old).streams.script)) (H.view host.old) (H.view host.new) }
+    ensures reached { OnOk result (TellsAll H.tells → (o : Origin) (found : Site) (failed : Failures) (first : Request)
+        → HasReached o found failed (first ∷ []) state.old (H.view host.old) → HasRun o found failed (first ∷ script_requests (H.view host.old).streams.script) state.new (H.view host.old) (H.view host.new)) }
+    ensures stop { TellsAll H.tells → (o : Origin) (found : Site) (failed : Failures) (first : Request)
+        → HasReached o found failed (first ∷ []) state.old (H.view host.old) → RunsOver o found failed (first ∷ script_requests (H.view host.old).streams.script) (H.view host.old) (H.view host.new) }
     ensures told { H.tells.output → TellsMore (H.view host.old) (H.view host.new) }
     ensures much { result ≡ Err Stop.TooMuchInput → H.tells.output → (H.view host.new).streams.taken ≡ (H.view host.old).streams.taken + limit }
     ensures less { (result ≢ Err Stop.TooMuchInput) → (result ≢ Err Stop.Memory) → H.tells.output → (H.view host.new).streams.taken < (H.view host.old).streams.taken + limit }
@@ -66,10 +65,9 @@ fn begin<H: Host>(alloc: Global, path: &str, host: &mut H) -> Result<State, Stop
     ensures sound { IfOk result IsSound }
     ensures first { IfOk result (λ state. next_of state ≡ 0) }
     ensures holds { IfOk result (λ state. H.tells.reads → IsHeld state ((H.view host.new).reads 0)) }
-    ensures reached { IfOk result (λ state. TellsAll H.tells → (found : Site) → site_found 1 (H.view host.old).reads ≡ Some found
-        → HasReached (origin_of (H.view host.old)) found (requests.Boot ∷ []) state (H.view host.new)) }
-    ensures stop { TellsAll H.tells → (H.view host.new).faults < last → IsSettled 0 (H.view host.old) → (found : Site) → site_found 1 (H.view host.old).reads ≡ Some found → can_boot found ≡ true
-        → Ran (IsOfLines (origin_of (H.view host.old)) (H.view host.new) found (requests.Boot ∷ [])) (H.view host.old) (H.view host.new) }
+    ensures reached { IfOk result (λ state. TellsAll H.tells → (found : Site) → site_found 1 (H.view host.old).reads ≡ Some found → HasStarted found state (H.view host.old) (H.view host.new)) }
+    ensures stop { TellsAll H.tells → IsSettled 0 (H.view host.old) → (found : Site) → site_found 1 (H.view host.old).reads ≡ Some found → can_boot found ≡ true
+        → RunsOver (origin_of (H.view host.old)) found none_failed (requests.Boot ∷ []) (H.view host.old) (H.view host.new) }
     ensures damaged { result ≡ Err Stop.Damaged → H.tells.reads → is_bootable (site_found 1 (H.view host.old).reads) ≡ false }
     ensures untouched { result ≡ Err Stop.Damaged → IsUntouched (H.view host.old) (H.view host.new) }
     ensures bootable { (result ≢ Err Stop.Damaged) → (result ≢ Err Stop.Device) → (result ≢ Err Stop.Memory) → H.tells.reads → is_bootable (site_found 1 (H.view host.old).reads) ≡ true }
@@ -91,7 +89,7 @@ fn begin<H: Host>(alloc: Global, path: &str, host: &mut H) -> Result<State, Stop
 fn attend<H: Host>(alloc: Global, path: &str, host: &mut H, limit: u64) -> Result<(), Stop>
     requires some { 0 < limit }
     requires most { limit ≤ 4294967296 }
-    ensures done { OnOk result (TellsAll H.tells → (H.view host.new).faults < last → (found : Site) → site_found 1 (H.view host.old).reads ≡ Some found → IsDone (H.view host.old) (H.view host.new) found) }
+    ensures done { OnOk result (TellsAll H.tells → (found : Site) → site_found 1 (H.view host.old).reads ≡ Some found → IsDone (H.view host.old) (H.view host.new) found) }
     ensures damaged { result ≡ Err Stop.Damaged → H.tells.reads → is_bootable (site_found 1 (H.view host.old).reads) ≡ false }
     ensures untouched { result ≡ Err Stop.Damaged → IsUntouched (H.view host.old) (H.view host.new) }
     ensures bootable { (result ≢ Err Stop.Damaged) → (result ≢ Err Stop.Device) → (result ≢ Err Stop.Memory) → H.tells.reads → is_bootable (site_found 1 (H.view host.old).reads) ≡ true }
@@ -100,8 +98,8 @@ fn attend<H: Host>(alloc: Global, path: &str, host: &mut H, limit: u64) -> Resul
     ensures much { result ≡ Err Stop.TooMuchInput → H.tells.output → (H.view host.new).streams.taken ≡ (H.view host.old).streams.taken + limit }
     ensures less { (result ≢ Err Stop.TooMuchInput) → (result ≢ Err Stop.Memory) → H.tells.output → (H.view host.new).streams.taken < (H.view host.old).streams.taken + limit }
     ensures most { H.tells.output → (H.view host.new).streams.taken ≤ (H.view host.old).streams.taken + limit }
-    ensures stop { TellsAll H.tells → (H.view host.new).faults < last → IsSettled 0 (H.view host.old) → (found : Site) → site_found 1 (H.view host.old).reads ≡ Some found → can_boot found ≡ true
-        → Ran (IsOfLines (origin_of (H.view host.old)) (H.view host.new) found (requests.Boot ∷ script_requests (H.view host.old).streams.script)) (H.view host.old) (H.view host.new) }
+    ensures stop { TellsAll H.tells → IsSettled 0 (H.view host.old) → (found : Site) → site_found 1 (H.view host.old).reads ≡ Some found → can_boot found ≡ true
+        → RunsOver (origin_of (H.view host.old)) found none_failed (requests.Boot ∷ script_requests (H.view host.old).streams.script) (H.view host.old) (H.view host.new) }
     ensures told { H.tells.output → TellsMore (H.view host.old) (H.view host.new) }
     ensures counts { HasRunCounts result (H.view host.old) (H.view host.new) }
 {
@@ -139,9 +137,8 @@ pub fn run_within<H: Host>(alloc: Global, words: &[String], host: &mut H, limit:
     ensures too_much { result ≡ Status.TooMuchInput → H.tells.output → (H.view host.new).streams.taken ≡ (H.view host.old).streams.taken + limit }
     ensures too_much_always { H.tells.output → (H.view host.new).streams.taken ≡ (H.view host.old).streams.taken + limit → (result ≡ Status.TooMuchInput) ⊎ (result ≡ Status.NoMemory) }
     ensures most { H.tells.output → (H.view host.new).streams.taken ≤ (H.view host.old).streams.taken + limit }
-    ensures done { result ≡ Status.Done → TellsAll H.tells → (H.view host.new).faults < last → (found : Site) → site_found 1 (H.view host.old).reads ≡ Some found → IsDone (H.view host.old) (H.view host.new) found }
-    ensures stop { TellsAll H.tells → (H.view host.new).faults < last → IsSettled 0 (H.view host.old) → (found : Site) → site_found 1 (H.view host.old).reads ≡ Some found → can_boot found ≡ true
-        → (p : Picture) → (H.view host.new).left_since (H.view host.old).clock p → IsOfRun (H.view host.old) (H.view host.new) found p }
+    ensures done { result ≡ Status.Done → TellsAll H.tells → (found : Site) → site_found 1 (H.view host.old).reads ≡ Some found → IsDone (H.view host.old) (H.view host.new) found }
+    ensures stop { TellsAll H.tells → IsSettled 0 (H.view host.old) → (found : Site) → site_found 1 (H.view host.old).reads ≡ Some found → can_boot found ≡ true → IsCrashSafe (H.view host.old) (H.view host.new) found }
     ensures complete { result ≢ Status.Usage → H.tells.reads → is_bootable (site_found 1 (H.view host.old).reads) ≡ true → NoneRose (H.view host.old) (H.view host.new) → IsComplete result }
 {
     match device_path(words) {
@@ -178,12 +175,11 @@ pub fn run<H: Host>(alloc: Global, words: &[String], host: &mut H) -> Status
     ensures most { H.tells.output → (H.view host.new).streams.taken ≤ (H.view host.old).streams.taken + 4294967296 }
 
     // The whole run is the machine's.
-    ensures done { result ≡ Status.Done → TellsAll H.tells → (H.view host.new).faults < last → (found : Site) → site_found 1 (H.view host.old).reads ≡ Some found → IsDone (H.view host.old) (H.view host.new) found }
+    ensures done { result ≡ Status.Done → TellsAll H.tells → (found : Site) → site_found 1 (H.view host.old).reads ≡ Some found → IsDone (H.view host.old) (H.view host.new) found }
 
     // At every stop within the run, the device stands for the machine with faults after some number of whole lines, as many
     // as were answered or one more, and the output is a first part of the text of these.
-    ensures stop { TellsAll H.tells → (H.view host.new).faults < last → IsSettled 0 (H.view host.old) → (found : Site) → site_found 1 (H.view host.old).reads ≡ Some found → can_boot found ≡ true
-        → (p : Picture) → (H.view host.new).left_since (H.view host.old).clock p → IsOfRun (H.view host.old) (H.view host.new) found p }
+    ensures stop { TellsAll H.tells → IsSettled 0 (H.view host.old) → (found : Site) → site_found 1 (H.view host.old).reads ≡ Some found → can_boot found ≡ true → IsCrashSafe (H.view host.old) (H.view host.new) found }
 
     // Where nothing stands against it, the run is done.
     ensures complete { result ≢ Status.Usage → H.tells.reads → is_bootable (site_found 1 (H.view host.old).reads) ≡ true → NoneRose (H.view host.old) (H.view host.new) → IsComplete result }

@@ -1,17 +1,18 @@
 ghost use Rattle.std.specs.Prelude.{◌≡◌, ◌≢◌, ◌<◌, ◌≤◌, ◌+◌, ◌++◌, [], ◌∷◌, List, ℕ, length, IfOk, IfErr, OnOk};
-ghost use Rattle.tq_host.specs.View.{TellsAll, last};
+ghost use Rattle.tq_host.specs.View.{TellsAll};
 ghost use Rattle.tq_host.specs.Calls.{IsGiven, IsGiving};
 ghost use Rattle.tq_host.specs.Within.{KeepsRest, Within, Ran};
 ghost use Rattle.tq_model.specs.declared.request.Request.{Request};
 ghost use Rattle.tq_model.specs.declared.request.CallRequest.{CallRequest};
+ghost use Rattle.tq_model.specs.Faulty.{Failures};
 ghost use Rattle.tq_model.specs.Step.{step};
 ghost use Rattle.tq_model.specs.Text.{line_text};
 ghost use Rattle.tq_model.specs.Grammar.{line_request, script_requests};
 ghost use Rattle.tq_device.specs.Content.{IsAnyStep};
 ghost use Rattle.tq_run.specs.Counts.{HasCounts, HasRunCounts};
 ghost use Rattle.tq_run.specs.Stops.{AreOn, HasNoNewImage, IsEither};
-ghost use Rattle.tq_run.specs.Turns.{Origin, IsOfLines};
-ghost use Rattle.tq_run.specs.Standing.{IsSound, next_of, IsHeld, HasReached};
+ghost use Rattle.tq_run.specs.Turns.{Origin, RunsOver};
+ghost use Rattle.tq_run.specs.Standing.{IsSound, next_of, IsHeld, HasReached, HasRun};
 ghost use Rattle.tq_run.specs.Manager.{site_of, IsOn, IsFit};
 ghost use Rattle.tq_run.specs.Output.{TellsMore, KeepsInput};
 ghost use Rattle.tq_model.specs.Site.{Site};
@@ -123,10 +124,10 @@ fn serve_line<H: Host>(
     ensures sound { OnOk result (IsSound state.new) }
     ensures next { OnOk result (next_of state.new ≤ next_of state.old + 1) }
     ensures holds { OnOk result (H.tells.reads → IsHeld state.new ((H.view host.new).reads 0)) }
-    ensures reached { OnOk result (TellsAll H.tells → (H.view host.new).faults < last → (o : Origin) (found : Site) (done : List Request) → number ≡ length done
-        → HasReached o found done state.old (H.view host.old) → HasReached o found (done ++ line_request line.now ∷ []) state.new (H.view host.new)) }
-    ensures stop { TellsAll H.tells → (H.view host.new).faults < last → (o : Origin) (found : Site) (done : List Request) → number ≡ length done
-        → HasReached o found done state.old (H.view host.old) → Ran (IsOfLines o (H.view host.new) found (done ++ line_request line.now ∷ [])) (H.view host.old) (H.view host.new) }
+    ensures reached { OnOk result (TellsAll H.tells → (o : Origin) (found : Site) (failed : Failures) (done : List Request) → number ≡ length done
+        → HasReached o found failed done state.old (H.view host.old) → HasRun o found failed (done ++ line_request line.now ∷ []) state.new (H.view host.old) (H.view host.new)) }
+    ensures stop { TellsAll H.tells → (o : Origin) (found : Site) (failed : Failures) (done : List Request) → number ≡ length done
+        → HasReached o found failed done state.old (H.view host.old) → RunsOver o found failed (done ++ line_request line.now ∷ []) (H.view host.old) (H.view host.new) }
     ensures told { H.tells.output → TellsMore (H.view host.old) (H.view host.new) }
     ensures input { KeepsInput (H.view host.old) (H.view host.new) }
     ensures later { (H.view host.old).faults ≤ (H.view host.new).faults }
@@ -148,10 +149,10 @@ pub fn serve_lines<H: Host>(
     requires sound { IsSound state.old }
     requires numbers { next_of state.old + length script.now ≤ 4294967295 }
     requires holds { H.tells.reads → IsHeld state.old ((H.view host.old).reads 0) }
-    ensures reached { OnOk result (TellsAll H.tells → (H.view host.new).faults < last → (o : Origin) (found : Site) (first : Request)
-        → HasReached o found (first ∷ []) state.old (H.view host.old) → HasReached o found (first ∷ script_requests script.now) state.new (H.view host.new)) }
-    ensures stop { TellsAll H.tells → (H.view host.new).faults < last → (o : Origin) (found : Site) (first : Request)
-        → HasReached o found (first ∷ []) state.old (H.view host.old) → Ran (IsOfLines o (H.view host.new) found (first ∷ script_requests script.now)) (H.view host.old) (H.view host.new) }
+    ensures reached { OnOk result (TellsAll H.tells → (o : Origin) (found : Site) (failed : Failures) (first : Request)
+        → HasReached o found failed (first ∷ []) state.old (H.view host.old) → HasRun o found failed (first ∷ script_requests script.now) state.new (H.view host.old) (H.view host.new)) }
+    ensures stop { TellsAll H.tells → (o : Origin) (found : Site) (failed : Failures) (first : Request)
+        → HasReached o found failed (first ∷ []) state.old (H.view host.old) → RunsOver o found failed (first ∷ script_requests script.now) (H.view host.old) (H.view host.new) }
     ensures told { H.tells.output → TellsMore (H.view host.old) (H.view host.new) }
     ensures input { KeepsInput (H.view host.old) (H.view host.new) }
     ensures later { (H.view host.old).faults ≤ (H.view host.new).faults }

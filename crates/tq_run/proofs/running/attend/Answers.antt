@@ -1,7 +1,5 @@
-use Rattle.std.proofs.Common.{◌≡◌, ◌<◌, ℕ, List, [], ◌∷◌, Some, Result, Err, sym, ◌∙◌, ap, subst, rules, arith}
-use Rattle.tq_host.specs.View.{TellsAll, last}
-use Rattle.tq_host.specs.Within.{Ran}
-use Rattle.tq_host.proofs.Running.{ran_on}
+use Rattle.std.proofs.Common.{◌≡◌, ℕ, List, [], ◌∷◌, Some, Result, Err, sym, ◌∙◌, ap, subst, rules}
+use Rattle.tq_host.specs.View.{TellsAll}
 use Rattle.tq_model.specs.declared.request.Request.TheVariants.{Boot}
 use Rattle.tq_model.specs.Site.{Site}
 use Rattle.tq_model.specs.Grammar.{script_requests}
@@ -10,11 +8,10 @@ use Rattle.tq_run.specs.declared.status.Stop.{Stop}
 use Rattle.tq_run.specs.declared.status.Stop.TheVariants.{Device}
 use Rattle.tq_run.specs.Counts.{IsQuiet, HasRunCounts}
 use Rattle.tq_run.specs.Ending.{IsDone}
-use Rattle.tq_run.specs.Turns.{IsOfLines, origin_of}
-use Rattle.tq_run.specs.Standing.{HasReached}
+use Rattle.tq_run.specs.Turns.{origin_of, none_failed, RunsOver}
+use Rattle.tq_run.specs.Standing.{HasRun, HasStarted}
 use Rattle.tq_run.proofs.CountLemmas.{on_ok, of_ok, quiet_calm, stop_counts, run_counts_on}
-use Rattle.tq_run.proofs.Going.{ran_front, is_done, tells_on}
-use Rattle.tq_run.proofs.Turning.{ran_more}
+use Rattle.tq_run.proofs.Going.{over_front, then_over, run_started, is_done, tells_on}
 use Rattle.tq_run.proofs.Statuses.{line_0_ended, line_0_begun}
 use Rattle.tq_run.proofs.running.attend.Goals as goal
 
@@ -22,34 +19,32 @@ same_error : {T : Type 0} (stop : Stop) → ◌≡◌ {A = Result T Stop} (Err s
 same_error stop e = cc
 
 pub returns-in_err-state-clause-stop : goal.returns-in_err-state-clause-stop
-returns-in_err-state-clause-stop g c = λ t below settled found is raisable.
+returns-in_err-state-clause-stop g c = λ t settled found is raisable.
     let a = g.H.Host.view c.args.host.now in
-    ran_front (origin_of a) (g.H.Host.view c.begin.new.host) found (Boot ∷ []) (script_requests a.streams.script) a (c.begin.ensures.stop t below settled found is raisable)
+    over_front (origin_of a) found none_failed (Boot ∷ []) (script_requests a.streams.script) a (g.H.Host.view c.begin.new.host) (c.begin.ensures.stop t settled found is raisable)
 
 pub returns-clause-stop : goal.returns-clause-stop
-returns-clause-stop g c = λ t below settled found is raisable.
+returns-clause-stop g c = λ t settled found is raisable.
     let a = g.H.Host.view c.args.host.now in
     let b = g.H.Host.view c.begin.new.host in
     let d = g.H.Host.view c.answer_script.new.host in
-    let o = origin_of a in
     let script : b.streams.script ≡ a.streams.script = c.begin.ensures.input.script in
-    let more = c.answer_script.ensures.told t.output in
-    let low : b.faults < last = omega (arith, below, c.answer_script.ensures.later) in
-    let reached : HasReached o found (Boot ∷ []) c.in_ok-state.state b = c.in_ok-state.ensures.reached t found is in
-    ran_on (IsOfLines o d found (Boot ∷ script_requests a.streams.script)) a b d
-    (ran_more reached.answered d more.0 more.1 (script_requests a.streams.script) a (c.begin.ensures.stop t low settled found is raisable))
-    (subst (λ (l : List ℕ). Ran (IsOfLines o d found (Boot ∷ script_requests l)) b d) script (c.answer_script.ensures.stop t below o found Boot reached))
+    let started : HasStarted found c.in_ok-state.state a b = c.in_ok-state.ensures.reached t found is in
+    let run = run_started a b found c.in_ok-state.state settled started in
+    then_over (origin_of a) found none_failed (Boot ∷ []) (script_requests a.streams.script) c.in_ok-state.state a b d run (c.answer_script.ensures.told t.output) (c.begin.ensures.told t.output)
+    (subst (λ (l : List ℕ). RunsOver (origin_of a) found run.since (Boot ∷ script_requests l) b d) script (c.answer_script.ensures.stop t (origin_of a) found run.since Boot run.reached))
 
 pub returns-clause-done : goal.returns-clause-done
 returns-clause-done g c =
     let a = g.H.Host.view c.args.host.now in
     let b = g.H.Host.view c.begin.new.host in
     let d = g.H.Host.view c.answer_script.new.host in
-    on_ok c.answer_script.result (TellsAll g.H.Host.tells → d.faults < last → (found : Site) → site_found 1 a.reads ≡ Some found → IsDone a d found) (λ x ok. λ t below found is.
+    on_ok c.answer_script.result (TellsAll g.H.Host.tells → (found : Site) → site_found 1 a.reads ≡ Some found → IsDone a d found) (λ x ok. λ t found is.
     let script : b.streams.script ≡ a.streams.script = c.begin.ensures.input.script in
-    let reached : HasReached (origin_of a) found (Boot ∷ []) c.in_ok-state.state b = c.in_ok-state.ensures.reached t found is in
-    let all = subst (λ (l : List ℕ). HasReached (origin_of a) found (Boot ∷ script_requests l) c.answer_script.new.state d) script (of_ok c.answer_script.result x _ ok c.answer_script.ensures.reached t below (origin_of a) found Boot reached) in
-    is_done a d found c.answer_script.new.state (g.met.H.Host.lawful c.answer_script.new.host) t (of_ok c.answer_script.result x _ ok c.answer_script.ensures.left t.script) all)
+    let started : HasStarted found c.in_ok-state.state a b = c.in_ok-state.ensures.reached t found is in
+    let all = subst (λ (l : List ℕ). HasRun (origin_of a) found started.failed (Boot ∷ script_requests l) c.answer_script.new.state b d) script
+        (of_ok c.answer_script.result x _ ok c.answer_script.ensures.reached t (origin_of a) found started.failed Boot started.reached) in
+    is_done a d found all.since c.answer_script.new.state (g.met.H.Host.lawful c.answer_script.new.host) t (of_ok c.answer_script.result x _ ok c.answer_script.ensures.left t.script) all.reached)
 
 pub returns-in_err-state-clause-line_0 : goal.returns-in_err-state-clause-line_0
 returns-in_err-state-clause-line_0 g c = λ t added is rose.

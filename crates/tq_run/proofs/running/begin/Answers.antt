@@ -1,4 +1,4 @@
-use Rattle.std.proofs.Common.{◌≡◌, Err, length, sym, ◌∙◌, ap, subst, rules}
+use Rattle.std.proofs.Common.{◌≡◌, Err, length, refl, sym, ◌∙◌, ap, subst, rules}
 use Rattle.tq_host.specs.View.{Streams}
 use Rattle.tq_host.specs.Calls.{IsGiven, IsGiving}
 use Rattle.tq_host.specs.Within.{Ran}
@@ -9,22 +9,28 @@ use Rattle.tq_run.specs.declared.status.Stop.TheVariants.{Damaged}
 use Rattle.tq_run.specs.Manager.{is_bootable}
 use Rattle.tq_run.proofs.Attending.{same_found, was_bootable}
 use Rattle.tq_model.proofs.LineText.{length-line_text}
-use Rattle.tq_run.proofs.Beginning.{attach_pictures, boot_pictures, first_pictures, first_reached, calm_none, calm_given, begun_given}
+use Rattle.tq_run.proofs.Beginning.{attach_over, boot_ended, first_over, first_started, calm_none, calm_given, begun_given}
 use Rattle.tq_run.proofs.Going.{tells_none, tells_given}
 use Rattle.tq_run.proofs.CountLemmas.{of_ok, ok_before, at_err}
 use Rattle.tq_run.proofs.States.{quiet_unless}
 use Rattle.tq_run.proofs.running.begin.Goals as goal
 
 pub returns-in_err-map_err-clause-stop : goal.returns-in_err-map_err-clause-stop
-returns-in_err-map_err-clause-stop g c = λ t below settled found is raisable.
-    attach_pictures found (g.H.Host.view c.args.host.now) (g.H.Host.view c.attach.new.self) is c.attach.ensures.call c.attach.ensures.still settled
+returns-in_err-map_err-clause-stop g c = λ t settled found is raisable.
+    let a = g.H.Host.view c.args.host.now in
+    let b = g.H.Host.view c.attach.new.self in
+    attach_over found a b is c.attach.ensures.call c.attach.ensures.still settled
 
 pub returns-in_err-manager-clause-stop : goal.returns-in_err-manager-clause-stop
-returns-in_err-manager-clause-stop g c = λ t below settled found is raisable.
-    boot_pictures found (g.H.Host.view c.args.host.now) (g.H.Host.view c.attach.new.self) is c.attach.ensures.call c.attach.ensures.still (g.H.Host.view c.boot.new.host) c.boot.ensures.rest.streams (c.boot.ensures.stop t.reads) settled
+returns-in_err-manager-clause-stop g c = λ t settled found is raisable.
+    let a = g.H.Host.view c.args.host.now in
+    let b = g.H.Host.view c.attach.new.self in
+    let d = g.H.Host.view c.boot.new.host in
+    let attached : b.faults ≡ a.faults = of_ok c.attach.result _ _ (ok_before _ _ _ _ c.map_err.ensures.cases c.in_ok-map_err.was) c.attach.ensures.call.cause.ok in
+    boot_ended found a b is c.attach.ensures.call c.attach.ensures.still d c.boot.ensures.rest.streams (c.boot.ensures.stop t.reads) attached c.in_err-manager.field-0.0 c.in_err-manager.ensures.counts settled
 
 pub returns-in_err-give_answer-clause-stop : goal.returns-in_err-give_answer-clause-stop
-returns-in_err-give_answer-clause-stop g c = λ t below settled found is raisable.
+returns-in_err-give_answer-clause-stop g c = λ t settled found is raisable.
     let a = g.H.Host.view c.args.host.now in
     let b = g.H.Host.view c.attach.new.self in
     let d = g.H.Host.view c.boot.new.host in
@@ -32,12 +38,12 @@ returns-in_err-give_answer-clause-stop g c = λ t below settled found is raisabl
     let quiet : IsQuiet b d = c.in_ok-manager.ensures.counts in
     let attached : b.faults ≡ a.faults = of_ok c.attach.result _ _ (ok_before _ _ _ _ c.map_err.ensures.cases c.in_ok-map_err.was) c.attach.ensures.call.cause.ok in
     let some = c.give_answer.ensures.some t.output in
-    first_pictures found a b is c.attach.ensures.call c.attach.ensures.still d c.boot.ensures.rest.streams (c.boot.ensures.stop t.reads) c.in_ok-manager.manager e (c.in_ok-manager.ensures.booted t.reads) (quiet.device ∙ attached)
-    (c.in_ok-manager.ensures.on t.reads) c.give_answer.ensures.faults c.give_answer.ensures.images settled some.0
-    (subst (λ (ans : Answer). IsGiven some.0 (line_text 0 ans) d e) c.readiness.ensures some.1) (subst (λ (ans : Answer). Ran (IsGiving (line_text 0 ans) d e) d e) c.readiness.ensures c.give_answer.ensures.gives)
+    first_over found a b is c.attach.ensures.call c.attach.ensures.still d c.boot.ensures.rest.streams (c.boot.ensures.stop t.reads) (quiet.device ∙ attached) c.in_ok-manager.manager e (c.in_ok-manager.ensures.booted t.reads)
+    (c.in_ok-manager.ensures.on t.reads) c.give_answer.ensures.faults c.give_answer.ensures.images some.0
+    (subst (λ (ans : Answer). IsGiven some.0 (line_text 0 ans) d e) c.readiness.ensures some.1) (subst (λ (ans : Answer). Ran (IsGiving (line_text 0 ans) d e) d e) c.readiness.ensures c.give_answer.ensures.gives) settled
 
 pub returns-clause-stop : goal.returns-clause-stop
-returns-clause-stop g c = λ t below settled found is raisable.
+returns-clause-stop g c = λ t settled found is raisable.
     let a = g.H.Host.view c.args.host.now in
     let b = g.H.Host.view c.attach.new.self in
     let d = g.H.Host.view c.boot.new.host in
@@ -45,9 +51,9 @@ returns-clause-stop g c = λ t below settled found is raisable.
     let quiet : IsQuiet b d = c.in_ok-manager.ensures.counts in
     let attached : b.faults ≡ a.faults = of_ok c.attach.result _ _ (ok_before _ _ _ _ c.map_err.ensures.cases c.in_ok-map_err.was) c.attach.ensures.call.cause.ok in
     let some = c.give_answer.ensures.some t.output in
-    first_pictures found a b is c.attach.ensures.call c.attach.ensures.still d c.boot.ensures.rest.streams (c.boot.ensures.stop t.reads) c.in_ok-manager.manager e (c.in_ok-manager.ensures.booted t.reads) (quiet.device ∙ attached)
-    (c.in_ok-manager.ensures.on t.reads) c.give_answer.ensures.faults c.give_answer.ensures.images settled some.0
-    (subst (λ (ans : Answer). IsGiven some.0 (line_text 0 ans) d e) c.readiness.ensures some.1) (subst (λ (ans : Answer). Ran (IsGiving (line_text 0 ans) d e) d e) c.readiness.ensures c.give_answer.ensures.gives)
+    first_over found a b is c.attach.ensures.call c.attach.ensures.still d c.boot.ensures.rest.streams (c.boot.ensures.stop t.reads) (quiet.device ∙ attached) c.in_ok-manager.manager e (c.in_ok-manager.ensures.booted t.reads)
+    (c.in_ok-manager.ensures.on t.reads) c.give_answer.ensures.faults c.give_answer.ensures.images some.0
+    (subst (λ (ans : Answer). IsGiven some.0 (line_text 0 ans) d e) c.readiness.ensures some.1) (subst (λ (ans : Answer). Ran (IsGiving (line_text 0 ans) d e) d e) c.readiness.ensures c.give_answer.ensures.gives) settled
 
 pub returns-clause-reached : goal.returns-clause-reached
 returns-clause-reached g c = λ t found is.
@@ -57,9 +63,10 @@ returns-clause-reached g c = λ t found is.
     let e = g.H.Host.view c.give_answer.new.host in
     let quiet : IsQuiet b d = c.in_ok-manager.ensures.counts in
     let attached : b.faults ≡ a.faults = of_ok c.attach.result _ _ (ok_before _ _ _ _ c.map_err.ensures.cases c.in_ok-map_err.was) c.attach.ensures.call.cause.ok in
-    first_reached found a b is c.attach.ensures.call c.attach.ensures.still d c.boot.ensures.rest.streams (c.boot.ensures.stop t.reads) c.in_ok-manager.manager e (c.in_ok-manager.ensures.booted t.reads) (quiet.device ∙ attached)
-    (c.in_ok-manager.ensures.on t.reads) c.give_answer.ensures.faults c.give_answer.ensures.images
-    (subst (λ (ans : Answer). IsGiven (length (line_text 0 ans)) (line_text 0 ans) d e) c.readiness.ensures (c.in_ok-give_answer.ensures.gave t.output)) (c.give_answer.ensures.still 0)
+    first_started found a b is c.attach.ensures.call c.attach.ensures.still d c.boot.ensures.rest.streams (c.boot.ensures.stop t.reads) (quiet.device ∙ attached) c.in_ok-manager.manager e (c.in_ok-manager.ensures.booted t.reads)
+    (c.in_ok-manager.ensures.on t.reads) c.give_answer.ensures.faults c.give_answer.ensures.images _
+    (subst (λ (ans : Answer). IsGiven (length (line_text 0 ans)) (line_text 0 ans) d e) c.readiness.ensures (c.in_ok-give_answer.ensures.gave t.output))
+    (subst (λ (ans : Answer). Ran (IsGiving (line_text 0 ans) d e) d e) c.readiness.ensures c.give_answer.ensures.gives) refl (c.give_answer.ensures.still 0)
 
 pub returns-in_err-manager-clause-damaged : goal.returns-in_err-manager-clause-damaged
 returns-in_err-manager-clause-damaged g c = λ e t.

@@ -1,7 +1,6 @@
-use Rattle.std.proofs.Common.{◌≡◌, ◌⊎◌, ◌∙◌, subst, sym, refl, Err, Result, [], ◌∷◌, ap}
-use Rattle.std.proofs.lemmas.List.{append-nil}
+use Rattle.std.proofs.Common.{◌≡◌, ◌⊎◌, ◌∙◌, subst, sym, refl, Err, Result, ◌∷◌, ap}
 use Rattle.tq_host.specs.Calls.{HasCauseOf}
-use Rattle.tq_host.proofs.Running.{each}
+use Rattle.tq_host.proofs.Running.{ran_start}
 use Rattle.tq_model.specs.declared.request.Request.TheVariants.{Boot}
 use Rattle.tq_model.specs.Grammar.{script_requests}
 use Rattle.tq_run.specs.declared.status.Status.{Status}
@@ -10,13 +9,12 @@ use Rattle.tq_run.specs.declared.status.Stop.{Stop}
 use Rattle.tq_run.specs.declared.status.Stop.TheVariants.{Device}
 use Rattle.tq_run.specs.Counts.{RoseDevice, HasRunCounts}
 use Rattle.tq_run.specs.Ending.{IsComplete, status_for}
-use Rattle.tq_run.specs.Turns.{IsOfLines, origin_of}
+use Rattle.tq_run.specs.Turns.{IsOfLines, RunsOver, none_failed, origin_of}
 use Rattle.tq_run.proofs.Beginning.{calm_none}
-use Rattle.tq_run.proofs.Booting.{read_stands}
 use Rattle.tq_run.proofs.CountLemmas.{read_cause, write_cause}
-use Rattle.tq_run.proofs.Going.{of_run}
+use Rattle.tq_run.proofs.Going.{on_none, is_safe}
 use Rattle.tq_run.proofs.Statuses.{not_risen, damaged_always, complete, done, is_device}
-use Rattle.tq_run.proofs.Turning.{starts_answered, of_answered_more}
+use Rattle.tq_run.proofs.Turning.{starts_answered}
 use Rattle.tq_run.proofs.running.run_within.Goals as goal
 
 pub returns-in-None-clause-line_0 : goal.returns-in-None-clause-line_0
@@ -61,16 +59,18 @@ returns-in-Some-clause-complete g c = λ usage t can calm.
     subst IsComplete (sym c.status_of.ensures) (complete c.attend.result (g.H.Host.view c.args.host.now) (g.H.Host.view c.attend.new.host) g.H.Host.tells.reads c.attend.ensures.damaged c.attend.ensures.counts t can calm)
 
 pub returns-in-None-clause-stop : goal.returns-in-None-clause-stop
-returns-in-None-clause-stop g c = λ t below settled found is raisable p left.
+returns-in-None-clause-stop g c = λ t settled found is raisable.
     let v = g.H.Host.view c.args.host.now in
-    let now = (g.met.H.Host.lawful c.args.host.now).only_now p left in
-    of_run v v found p (of_answered_more (starts_answered v found) v [] (sym (append-nil v.streams.stamps)) (Boot ∷ script_requests v.streams.script) p (read_stands v.reads found (p.images 0) is (settled (p.images 0) (now.images 0))) now.output)
+    let start = starts_answered v found in
+    let over : RunsOver (origin_of v) found none_failed (Boot ∷ script_requests v.streams.script) v v = record {
+        since = none_failed;
+        on = on_none (origin_of v) v none_failed;
+        added = start.added;
+        stamps = start.stamps;
+        failures = start.failures;
+        ran = ran_start (IsOfLines (origin_of v) v found none_failed (Boot ∷ script_requests v.streams.script)) v;
+    } in
+    is_safe (g.met.H.Host.lawful c.args.host.now) found settled is over
 
 pub returns-in-Some-clause-stop : goal.returns-in-Some-clause-stop
-returns-in-Some-clause-stop g c = λ t below settled found is raisable p left.
-    let a = g.H.Host.view c.args.host.now in
-    let f = g.H.Host.view c.attend.new.host in
-    let requests = Boot ∷ script_requests a.streams.script in
-    let more = c.attend.ensures.told t.output in
-    of_run a f found p (each (IsOfLines (origin_of a) f found requests) a f (g.met.H.Host.lawful c.args.host.now) (c.attend.ensures.stop t below settled found is raisable)
-    (λ q now. of_answered_more (starts_answered a found) f more.0 more.1 requests q (read_stands a.reads found (q.images 0) is (settled (q.images 0) (now.images 0))) now.output) p left)
+returns-in-Some-clause-stop g c = λ t settled found is raisable. is_safe (g.met.H.Host.lawful c.args.host.now) found settled is (c.attend.ensures.stop t settled found is raisable)

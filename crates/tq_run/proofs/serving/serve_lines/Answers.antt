@@ -1,10 +1,9 @@
 use Rattle.std.proofs.Common.{◌≡◌, ◌<◌, ℕ, List, [], ◌∷◌, length, refl, subst, rules, arith}
 use Rattle.std.specs.Prelude.{map}
-use Rattle.tq_host.specs.View.{last}
 use Rattle.tq_model.specs.Grammar.{script_lines, script_requests, line_request}
 use Rattle.tq_run.specs.Counts.{IsCalm}
 use Rattle.tq_run.proofs.CountLemmas.{calm, calm_on}
-use Rattle.tq_run.proofs.Going.{IsSoFar, so_far_first, so_far_next, ends_here, all_ran, all_reached, tells_on, tells_none, requests_first}
+use Rattle.tq_run.proofs.Going.{IsSoFar, so_far_first, so_far_next, ends_here, over_run, all_run, tells_on, tells_none, requests_first}
 use Rattle.tq_run.proofs.serving.serve_lines.Goals as goal
 
 pub loop-line-init : goal.loop-line-init
@@ -18,7 +17,7 @@ loop-line-init g c =
       input = search rules;
       calm = calm start;
       told = λ t. tells_none start start refl;
-      so_far = λ t below o found first reached. so_far_first o found first (script_requests c.args.script.now) c.args.state.now start reached;
+      so_far = λ t o found failed first reached. so_far_first o found failed first (script_requests c.args.script.now) c.args.state.now start reached;
     }
 
 pub loop-line-preserved : goal.loop-line-preserved
@@ -40,17 +39,15 @@ loop-line-preserved g c =
       input = search rules;
       calm = calm_on start mid new inv.calm quiet;
       told = λ t. tells_on start mid new (inv.told t) (c.serve_line.ensures.told t);
-      so_far = λ t below o found first reached.
-          let low : mid.faults < last = omega (arith, below, quiet.device) in
-          let so_far = inv.so_far t low o found first reached in
-          so_far_next o found first (script_requests c.args.script.now) (script_requests rest) (script_requests behind) (line_request line) c.loop-line.number c.loop-line.state start mid new so_far
-          (requests_first rest line behind c.in-Some.ensures.lines) (c.serve_line.ensures.told t.output) c.serve_line.new.state
-          (c.in_ok-serve_line.ensures.reached t below o found (first ∷ so_far.done) so_far.count so_far.reached)
-          (c.serve_line.ensures.stop t below o found (first ∷ so_far.done) so_far.count so_far.reached);
+      so_far = λ t o found failed first reached.
+          let so_far = inv.so_far t o found failed first reached in
+          so_far_next o found failed first (script_requests c.args.script.now) (script_requests rest) (script_requests behind) (line_request line) c.loop-line.number c.loop-line.state start mid new so_far
+          (requests_first rest line behind c.in-Some.ensures.lines) (c.serve_line.ensures.told t.output) (inv.told t.output) c.serve_line.new.state
+          (c.in_ok-serve_line.ensures.reached t o found so_far.run.since (first ∷ so_far.done) so_far.count so_far.run.reached);
     }
 
 pub returns-in_err-serve_line-clause-stop : goal.returns-in_err-serve_line-clause-stop
-returns-in_err-serve_line-clause-stop g c = λ t below o found first reached.
+returns-in_err-serve_line-clause-stop g c = λ t o found failed first reached.
     let inv = c.loop-line.invariant in
     let start = g.H.Host.view c.args.host.now in
     let mid = g.H.Host.view c.loop-line.host in
@@ -58,29 +55,28 @@ returns-in_err-serve_line-clause-stop g c = λ t below o found first reached.
     let rest = c.loop-line.rest.now in
     let line = c.in-Some.line.now in
     let behind = c.in-Some.behind.now in
-    let low : mid.faults < last = omega (arith, below, c.serve_line.ensures.later) in
-    let so_far = inv.so_far t low o found first reached in
-    ends_here o found first (script_requests c.args.script.now) (script_requests rest) (script_requests behind) (line_request line) c.loop-line.number c.loop-line.state start mid new so_far
-    (requests_first rest line behind c.in-Some.ensures.lines) (c.serve_line.ensures.told t.output)
-    (c.serve_line.ensures.stop t below o found (first ∷ so_far.done) so_far.count so_far.reached)
+    let so_far = inv.so_far t o found failed first reached in
+    ends_here o found failed first (script_requests c.args.script.now) (script_requests rest) (script_requests behind) (line_request line) c.loop-line.number c.loop-line.state start mid new so_far
+    (requests_first rest line behind c.in-Some.ensures.lines) (c.serve_line.ensures.told t.output) (inv.told t.output)
+    (c.serve_line.ensures.stop t o found so_far.run.since (first ∷ so_far.done) so_far.count so_far.run.reached)
 
 pub returns-in_err-serve_line-clause-told : goal.returns-in_err-serve_line-clause-told
 returns-in_err-serve_line-clause-told g c = λ t. tells_on (g.H.Host.view c.args.host.now) (g.H.Host.view c.loop-line.host) (g.H.Host.view c.serve_line.new.host) (c.loop-line.invariant.told t) (c.serve_line.ensures.told t)
 
 pub returns-clause-stop : goal.returns-clause-stop
-returns-clause-stop g c = λ t below o found first reached.
+returns-clause-stop g c = λ t o found failed first reached.
     let start = g.H.Host.view c.args.host.now in
     let now = g.H.Host.view c.loop-line.host in
     let none : script_lines c.loop-line.rest.now ≡ [] = search rules in
     let all = script_requests c.args.script.now in
-    let so_far = subst (λ (l : List (List ℕ)). IsSoFar o found first all (map line_request l) c.loop-line.number c.loop-line.state start now) none (c.loop-line.invariant.so_far t below o found first reached) in
-    all_ran o found first all c.loop-line.number c.loop-line.state start now so_far
+    let so_far = subst (λ (l : List (List ℕ)). IsSoFar o found failed first all (map line_request l) c.loop-line.number c.loop-line.state start now) none (c.loop-line.invariant.so_far t o found failed first reached) in
+    over_run o found failed (first ∷ all) c.loop-line.state start now (all_run o found failed first all c.loop-line.number c.loop-line.state start now so_far)
 
 pub returns-clause-reached : goal.returns-clause-reached
-returns-clause-reached g c = λ t below o found first reached.
+returns-clause-reached g c = λ t o found failed first reached.
     let start = g.H.Host.view c.args.host.now in
     let now = g.H.Host.view c.loop-line.host in
     let none : script_lines c.loop-line.rest.now ≡ [] = search rules in
     let all = script_requests c.args.script.now in
-    let so_far = subst (λ (l : List (List ℕ)). IsSoFar o found first all (map line_request l) c.loop-line.number c.loop-line.state start now) none (c.loop-line.invariant.so_far t below o found first reached) in
-    all_reached o found first all c.loop-line.number c.loop-line.state start now so_far
+    let so_far = subst (λ (l : List (List ℕ)). IsSoFar o found failed first all (map line_request l) c.loop-line.number c.loop-line.state start now) none (c.loop-line.invariant.so_far t o found failed first reached) in
+    all_run o found failed first all c.loop-line.number c.loop-line.state start now so_far

@@ -1,6 +1,7 @@
-use Rattle.std.proofs.Common.{◌≤◌, ◌<◌, ◌+◌, ◌∷◌, [], length}
-use Rattle.tq_host.specs.View.{TellsAll, last}
+use Rattle.std.proofs.Common.{◌≤◌, ◌+◌, ◌∷◌, [], length}
+use Rattle.tq_host.specs.View.{TellsAll}
 use Rattle.tq_model.specs.declared.request.Request.{Request}
+use Rattle.tq_model.specs.Faulty.{Failures}
 use Rattle.tq_model.specs.Site.{Site}
 use Rattle.tq_model.specs.Grammar.{script_requests}
 use Rattle.tq_run.specs.Counts.{IsCalm}
@@ -22,8 +23,8 @@ invariant-loop-line g l =
       input : KeepsInput start now;
       calm : IsCalm start now;
       told : g.H.Host.tells.output → TellsMore start now;
-      so_far : TellsAll g.H.Host.tells → now.faults < last → (o : Origin) (found : Site) (first : Request) → HasReached o found (first ∷ []) l.fn.state start
-          → IsSoFar o found first (script_requests l.script) (script_requests l.rest) l.number l.state start now;
+      so_far : TellsAll g.H.Host.tells → (o : Origin) (found : Site) (failed : Failures) (first : Request) → HasReached o found failed (first ∷ []) l.fn.state start
+          → IsSoFar o found failed first (script_requests l.script) (script_requests l.rest) l.number l.state start now;
     }
 
 abbrev pub decreases-loop-line : goal.decreases-loop-line
