@@ -1,8 +1,7 @@
 -- The lines of a run, one after another, by what the host tells.
-use Rattle.std.proofs.Common.{◌≡◌, ◌⊎◌, inl, inr, ⊎_elim, ◌<◌, ◌≤◌, ℕ, zero, suc, ◌+◌, ◌-◌, List, [], ◌∷◌, ◌++◌, Option, Bool, true, false, cond, refl, sym, ◌∙◌, ap, subst, arith, length, take, get_or, append_assoc, length-append}
-use Rattle.std.specs.Prelude.{map, ◌==◌, replicate}
+use Rattle.std.proofs.Common.{◌≡◌, ◌⊎◌, inl, inr, ⊎_elim, ◌<◌, ◌≤◌, ℕ, zero, suc, ◌+◌, ◌-◌, List, [], ◌∷◌, ◌++◌, Option, Bool, true, refl, sym, ◌∙◌, ap, subst, arith, length, take, get_or, append_assoc, length-append}
+use Rattle.std.specs.Prelude.{map, replicate}
 use Rattle.std.proofs.lemmas.List.{append-nil, append_cancel_left, take_all, take_at, take-append-le, length-replicate}
-use Rattle.std.proofs.lemmas.Bool.Decides.{nat_tests}
 use Rattle.tq_host.specs.View.{View, Stamp, Picture, Streams}
 use Rattle.tq_host.specs.Calls.{HasCauseOf, IsGiven, IsGiving}
 use Rattle.tq_host.specs.Within.{Within, Ran}
@@ -11,7 +10,7 @@ use Rattle.tq_model.specs.declared.request.Request.{Request}
 use Rattle.tq_model.specs.Site.{Site}
 use Rattle.tq_model.specs.Text.{line_text}
 use Rattle.tq_model.specs.Reading.{site_found}
-use Rattle.tq_model.specs.Faulty.{Condition, Up, Down, Trace, Failures, Turn, Progress, count_before, count_at, rose_at, found_at, turn, advance, after, beginning, StandForState, turn_at}
+use Rattle.tq_model.specs.Faulty.{Condition, Up, Down, Trace, Failures, Turn, Progress, count_before, count_at, found_at, turn, advance, after, beginning, StandForState, turn_at}
 use Rattle.tq_model.proofs.LineText.{length-line_text}
 use Rattle.tq_run.specs.Failures.{AreFailures}
 use Rattle.tq_run.specs.Turns.{ImageStandsFor, IsBeforeOrAfter, Origin, origin_of, none_failed, GoesOn, IsAnswered, IsOfLines, RunsOver, turn_between, trace_from, told_after}

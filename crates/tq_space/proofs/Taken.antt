@@ -1,7 +1,6 @@
 -- Lists that are taken from their end, and values that may be there.
-use Rattle.std.proofs.Common.{◌≡◌, List, [], ◌∷◌, ◌++◌, refl, Option, Some, None, option_map, reverse, ap, ◌∙◌}
+use Rattle.std.proofs.Common.{◌≡◌, refl, Option, Some, None, option_map}
 use Rattle.std.specs.Prelude.{is_some}
-use Rattle.std.proofs.lemmas.List.{reverse-append}
 
 pub none_of : {X Y : Type 0} (f : X → Y) (o : Option X) → option_map f o ≡ None → o ≡ None
 none_of f None h = refl

@@ -43,7 +43,7 @@ returns-clause-done g c =
     let script : b.streams.script ≡ a.streams.script = c.begin.ensures.input.script in
     let started : HasStarted found c.in_ok-state.state a b = c.in_ok-state.ensures.reached t found is in
     let all = subst (λ (l : List ℕ). HasRun (origin_of a) found started.failed (Boot ∷ script_requests l) c.answer_script.new.state b d) script
-        (of_ok c.answer_script.result x _ ok c.answer_script.ensures.reached t (origin_of a) found started.failed Boot started.reached) in
+    (of_ok c.answer_script.result x _ ok c.answer_script.ensures.reached t (origin_of a) found started.failed Boot started.reached) in
     is_done a d found all.since c.answer_script.new.state (g.met.H.Host.lawful c.answer_script.new.host) t (of_ok c.answer_script.result x _ ok c.answer_script.ensures.left t.script) all.reached)
 
 pub returns-in_err-state-clause-line_0 : goal.returns-in_err-state-clause-line_0

@@ -63,12 +63,12 @@ returns-in-None-clause-stop g c = λ t settled found is raisable.
     let v = g.H.Host.view c.args.host.now in
     let start = starts_answered v found in
     let over : RunsOver (origin_of v) found none_failed (Boot ∷ script_requests v.streams.script) v v = record {
-        since = none_failed;
-        on = on_none (origin_of v) v none_failed;
-        added = start.added;
-        stamps = start.stamps;
-        failures = start.failures;
-        ran = ran_start (IsOfLines (origin_of v) v found none_failed (Boot ∷ script_requests v.streams.script)) v;
+      since = none_failed;
+      on = on_none (origin_of v) v none_failed;
+      added = start.added;
+      stamps = start.stamps;
+      failures = start.failures;
+      ran = ran_start (IsOfLines (origin_of v) v found none_failed (Boot ∷ script_requests v.streams.script)) v;
     } in
     is_safe (g.met.H.Host.lawful c.args.host.now) found settled is over
 
