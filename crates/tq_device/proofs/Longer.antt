@@ -3,7 +3,7 @@ use Rattle.std.proofs.Common.{◌≡◌, ℕ, ◌+◌, List, None, refl, sym, �
 use Rattle.tq_host.proofs.Steps.{IsSteps}
 use Rattle.tq_model.specs.Reading.{chosen, table_a, table_b, journal_a, journal_b}
 use Rattle.tq_device.specs.declared.content.DeviceContent.{DeviceContent}
-use Rattle.tq_device.specs.Content.{Stands, IsLonger}
+use Rattle.tq_device.specs.Content.{HasContent, IsLonger}
 use Rattle.tq_device.proofs.Areas.{chosen_most}
 use Rattle.tq_device.proofs.Standing.{stands_kept}
 
@@ -17,7 +17,7 @@ longer_steps = record {
 }
 
 -- more bytes behind it change nothing of a content
-pub longer_keeps : (d : DeviceContent) (old new : List ℕ) → IsLonger old new → Stands d old → Stands d new
+pub longer_keeps : (d : DeviceContent) (old new : List ℕ) → IsLonger old new → HasContent d old → HasContent d new
 longer_keeps d old new longer stands =
     let long = stands.size in
     let table = chosen_most d.table table_a table_b (omega arith) in
@@ -27,5 +27,5 @@ longer_keeps d old new longer stands =
     (λ i lt. sym (longer.bytes (chosen d.journal journal_a journal_b + i) (omega (arith, lt, long, journal))))
 
 -- the same of one without a space
-pub longer_stands : (d : DeviceContent) (old new : List ℕ) → d.named ≡ None → IsLonger old new → Stands d old → Stands d new
+pub longer_stands : (d : DeviceContent) (old new : List ℕ) → d.named ≡ None → IsLonger old new → HasContent d old → HasContent d new
 longer_stands d old new none longer stands = longer_keeps d old new longer stands

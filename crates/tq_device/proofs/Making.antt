@@ -13,7 +13,7 @@ use Rattle.tq_host.proofs.Steps.{IsSteps}
 use Rattle.tq_host.proofs.Bytes.{before_or_after}
 use Rattle.tq_model.specs.Site.{least_clusters, most_clusters}
 use Rattle.tq_model.specs.Reading.{table_a, journal_a}
-use Rattle.tq_device.specs.Content.{Stands, IsBlankOrNew, IsAnyStep, new_content}
+use Rattle.tq_device.specs.Content.{HasContent, IsBlankOrNew, IsAnyStep, new_content}
 use Rattle.tq_device.specs.Made.{IsShort, made_byte, IsMadeTo, IsPaged, IsLaidOut}
 use Rattle.tq_device.specs.Parts.{is_header, is_journal, HasHeader, IsTable, HasTable, HasJournal}
 use Rattle.tq_device.proofs.Parts.{AreSame, shifted, same_runs, same_numbers}
@@ -133,7 +133,7 @@ laid_out site clusters h t j image size_h size_t size_j mark_h device is_site is
 -- Contents
 
 -- the last byte makes it new
-pub opened : (site clusters : ℕ) (b c : List ℕ) → IsLaidOut site clusters b → ((i : ℕ) → i < 131071 → get_or c i 0 ≡ get_or b i 0) → 131072 ≤ length c → Stands (new_content site clusters) c
+pub opened : (site clusters : ℕ) (b c : List ℕ) → IsLaidOut site clusters b → ((i : ℕ) → i < 131071 → get_or c i 0 ≡ get_or b i 0) → 131072 ≤ length c → HasContent (new_content site clusters) c
 opened site clusters b c laid same long =
     let size = laid.size in
     let table : HasTable table_a clusters 1 None b = record { bytes = laid.table; fits = tt } in

@@ -3,7 +3,7 @@ use Rattle.std.proofs.Common.{◌≡◌, inl, inr, ⊎_elim, ◌<◌, ◌≤◌,
 use Rattle.std.specs.Prelude.{codes, option_map}
 use Rattle.std.proofs.lemmas.List.{get_or_past}
 use Rattle.tq_field.specs.Places.{run_at, number_at}
-use Rattle.tq_host.specs.Calls.{StandsAt, IsSameOutside, IsTorn, IsWritten}
+use Rattle.tq_host.specs.Calls.{HasBytesAt, IsSameOutside, IsTorn, IsWritten}
 use Rattle.tq_host.proofs.Steps.{IsSteps}
 use Rattle.tq_types.specs.Name.{IsName}
 use Rattle.tq_model.specs.Site.{clusters_for}
@@ -12,7 +12,7 @@ use Rattle.tq_model.specs.Reading as read
 use Rattle.tq_model.proofs.NameTests.{is_name-name}
 use Rattle.tq_device.specs.declared.content.NamedSpace.{NamedSpace}
 use Rattle.tq_device.specs.declared.content.DeviceContent.{DeviceContent}
-use Rattle.tq_device.specs.Content.{Stands, named_view, entered, IsOldOrEntered, IsSameButTable}
+use Rattle.tq_device.specs.Content.{HasContent, named_view, entered, IsOldOrEntered, IsSameButTable}
 use Rattle.tq_device.specs.Parts.{IsTable, HasTable, IsFitting, entry_of}
 use Rattle.tq_device.specs.Entered.{IsTableFilled}
 use Rattle.tq_device.proofs.Areas.{chosen_least, other_least, other_most, other_apart, chosen_either, turned}
@@ -32,7 +32,7 @@ space_of name ordinal pages = record { name = name; ordinal = ordinal; pages = p
 
 module _ (ordinal pages : ℕ) (name start padded named numbered base : List ℕ) (size_start : length start ≡ 8) (size_0 : length padded ≡ 3072) (size_1 : length named ≡ 3072) (size_2 : length numbered ≡ 3072) (size_3 : length base ≡ 3072) (is_name : IsName name) (small : ordinal < 268435455)
     (mark : run_at 0 4 start ≡ codes "TQTB") (next : number_at 4 4 start ≡ ordinal + 1) (pad : (i : ℕ) → get_or padded i 0 ≡ get_or start i 0)
-    (used : get_or named 32 0 ≡ 1) (size : get_or named 33 0 ≡ length name) (text : StandsAt 34 name named) (outside_1 : IsSameOutside 32 17 padded named)
+    (used : get_or named 32 0 ≡ 1) (size : get_or named 33 0 ≡ length name) (text : HasBytesAt 34 name named) (outside_1 : IsSameOutside 32 17 padded named)
     (is_ordinal : number_at 164 4 numbered ≡ ordinal) (is_pages : number_at 168 4 numbered ≡ pages) (extents : number_at 172 4 numbered ≡ 1) (outside_2 : IsSameOutside 164 12 named numbered)
     (first : number_at 2592 2 base ≡ 4) (count : number_at 2594 2 base ≡ clusters_for pages) (outside_3 : IsSameOutside 2592 4 numbered base) where
   low : (i : ℕ) → i < 164 → get_or base i 0 ≡ get_or named i 0
@@ -71,7 +71,7 @@ module _ (ordinal pages : ℕ) (name start padded named numbered base : List ℕ
 -- Fillings
 
 -- where only the area not chosen is written, the content stays
-filled_same : (d : DeviceContent) (a b : List ℕ) → Stands d a → length b ≡ length a → IsSameOutside (other d.table table_a table_b) 3072 a b → IsSameButTable a b × Stands d b
+filled_same : (d : DeviceContent) (a b : List ℕ) → HasContent d a → length b ≡ length a → IsSameOutside (other d.table table_a table_b) 3072 a b → IsSameButTable a b × HasContent d b
 filled_same d a b stands size outside =
     let least = other_least d.table table_a table_b (omega arith) in
     let most = other_most d.table table_a table_b (omega arith) in
@@ -84,7 +84,7 @@ filled_same d a b stands size outside =
           (⊎_elim (λ before. inl (omega (arith, before))) (λ after. inr after) (other_apart d.table table_a table_b 3072 (omega arith))) (inr (omega (arith, journal, most))),
     )
 
-pub table_torn : (d : DeviceContent) (at n : ℕ) (a b : List ℕ) → at ≡ other d.table table_a table_b → n ≡ 3072 → Stands d a → IsTorn at n a b → IsSameButTable a b × Stands d b
+pub table_torn : (d : DeviceContent) (at n : ℕ) (a b : List ℕ) → at ≡ other d.table table_a table_b → n ≡ 3072 → HasContent d a → IsTorn at n a b → IsSameButTable a b × HasContent d b
 table_torn d at n a b place all stands torn =
     let most = other_most d.table table_a table_b (omega arith) in
     let long = stands.size in
@@ -92,7 +92,7 @@ table_torn d at n a b place all stands torn =
     (λ i apart. torn.outside i (⊎_elim (λ below. inl (omega (arith, below, place))) (λ above. inr (omega (arith, above, place, all))) apart))
 
 -- the space fits into the table
-new_fits : (d : DeviceContent) (name : List ℕ) (pages size : ℕ) (a : List ℕ) → Stands d a → IsName name → 1 ≤ pages → pages ≤ 262016 → 4 + clusters_for pages ≤ d.clusters → 131072 + 32768 * clusters_for pages ≤ size
+new_fits : (d : DeviceContent) (name : List ℕ) (pages size : ℕ) (a : List ℕ) → HasContent d a → IsName name → 1 ≤ pages → pages ≤ 262016 → 4 + clusters_for pages ≤ d.clusters → 131072 + 32768 * clusters_for pages ≤ size
     → IsFitting (d.next_space + 1) d.clusters size (Some (space_of name d.next_space pages))
 new_fits d name pages size a stands is_name least most within reached =
     let table = (stands_parts d a stands).table.bytes in
@@ -110,7 +110,7 @@ new_fits d name pages size a stands is_name least most within reached =
     })
 
 pub table_written : (d : DeviceContent) (name : List ℕ) (pages at : ℕ) (base a b : List ℕ) → at ≡ other d.table table_a table_b → length base ≡ 3072 → IsTable 0 (d.next_space + 1) (Some (space_of name d.next_space pages)) base
-    → IsName name → 1 ≤ pages → pages ≤ 262016 → 4 + clusters_for pages ≤ d.clusters → 131072 + 32768 * clusters_for pages ≤ length a → Stands d a → IsWritten at base a b → IsSameButTable a b × IsTableFilled d name pages b
+    → IsName name → 1 ≤ pages → pages ≤ 262016 → 4 + clusters_for pages ≤ d.clusters → 131072 + 32768 * clusters_for pages ≤ length a → HasContent d a → IsWritten at base a b → IsSameButTable a b × IsTableFilled d name pages b
 table_written d name pages at base a b place size_base is is_name least most within reached stands written =
     let area = other d.table table_a table_b in
     let last = other_most d.table table_a table_b (omega arith) in
@@ -130,16 +130,16 @@ table_written d name pages at base a b place size_base is is_name least most wit
 
 module _ (d : DeviceContent) (name : List ℕ) (pages : ℕ) (a b : List ℕ) (filled : IsTableFilled d name pages a) (size : length b ≡ length a) (outside : IsSameOutside 512 1 a b) where
   -- whichever table the selector chooses, of the two
-  choice : (at next : ℕ) (named : Option NamedSpace) → HasTable at d.clusters next (option_map named_view named) a → chosen (get_or b 512 0) table_a table_b ≡ at → Stands (record d { next_space = next; table = get_or b 512 0; named = named }) b
+  choice : (at next : ℕ) (named : Option NamedSpace) → HasTable at d.clusters next (option_map named_view named) a → chosen (get_or b 512 0) table_a table_b ≡ at → HasContent (record d { next_space = next; table = get_or b 512 0; named = named }) b
   choice at next named has is =
       let parts = stands_parts d a filled.stands in
       selected (record d { next_space = next; table = get_or b 512 0; named = named }) a b filled.stands.size size (λ i apart. outside i (⊎_elim (λ below. inl below) (λ above. inr (omega (arith, above))) apart))
       (record { header = parts.header; table = subst (λ p. HasTable p d.clusters next (option_map named_view named) a) (sym is) has; journal = parts.journal }) (outside 513 (inr (omega arith)) ∙ filled.stands.journal) refl
 
-  kept_choice : chosen (get_or b 512 0) table_a table_b ≡ chosen d.table table_a table_b → Stands (record d { table = get_or b 512 0 }) b
+  kept_choice : chosen (get_or b 512 0) table_a table_b ≡ chosen d.table table_a table_b → HasContent (record d { table = get_or b 512 0 }) b
   kept_choice is = choice (chosen d.table table_a table_b) d.next_space d.named (stands_parts d a filled.stands).table is
 
-  pub entered_choice : chosen (get_or b 512 0) table_a table_b ≡ other d.table table_a table_b → Stands (record (entered d name pages) { table = get_or b 512 0 }) b
+  pub entered_choice : chosen (get_or b 512 0) table_a table_b ≡ other d.table table_a table_b → HasContent (record (entered d name pages) { table = get_or b 512 0 }) b
   entered_choice is = choice (other d.table table_a table_b) (d.next_space + 1) (Some (record { name = name; ordinal = d.next_space; pages = pages })) filled.base is
 
   pub same_choice : IsSameButTable a b
@@ -154,14 +154,14 @@ selector_torn d name pages a b filled torn =
     let size : length b ≡ length a = omega (arith, long, torn.no_shorter, torn.no_longer) in
     (same_choice d name pages a b filled size torn.outside, either_choice d name pages a b filled size torn.outside)
 
-pub selector_written : (d : DeviceContent) (name : List ℕ) (pages : ℕ) (a b : List ℕ) → IsTableFilled d name pages a → IsWritten 512 ((1 - d.table % 2) ∷ []) a b → IsSameButTable a b × Stands (entered d name pages) b
+pub selector_written : (d : DeviceContent) (name : List ℕ) (pages : ℕ) (a b : List ℕ) → IsTableFilled d name pages a → IsWritten 512 ((1 - d.table % 2) ∷ []) a b → IsSameButTable a b × HasContent (entered d name pages) b
 selector_written d name pages a b filled written =
     let long = filled.stands.size in
     let size : length b ≡ length a = omega (arith, long, written.size) in
     let selector : get_or b 512 0 ≡ 1 - d.table % 2 = written.stands 0 (omega arith) in
     let area : chosen (get_or b 512 0) table_a table_b ≡ other d.table table_a table_b = ap (λ s. chosen s table_a table_b) selector ∙ turned d.table table_a table_b in
-    (same_choice d name pages a b filled size written.outside, subst (λ s. Stands (record (entered d name pages) { table = s }) b) selector (entered_choice d name pages a b filled size written.outside area))
+    (same_choice d name pages a b filled size written.outside, subst (λ s. HasContent (record (entered d name pages) { table = s }) b) selector (entered_choice d name pages a b filled size written.outside area))
 
 -- with whatever selector it has, it is the old content
-pub stands_is_old : (d : DeviceContent) (n : List ℕ × ℕ) (a : List ℕ) → Stands d a → IsOldOrEntered d n a
+pub stands_is_old : (d : DeviceContent) (n : List ℕ × ℕ) (a : List ℕ) → HasContent d a → IsOldOrEntered d n a
 stands_is_old d n a stands = inl (record { size = stands.size; tests = stands.tests; part = stands.part; journal = stands.journal; table = refl })

@@ -6,13 +6,13 @@ use Rattle.tq_model.specs.Reading.{chosen, table_a, table_b, journal_a, journal_
 use Rattle.tq_model.specs.Reading as read
 use Rattle.tq_device.specs.declared.content.NamedSpace.{NamedSpace}
 use Rattle.tq_device.specs.declared.content.DeviceContent.{DeviceContent}
-use Rattle.tq_device.specs.Content.{Stands, named_view}
+use Rattle.tq_device.specs.Content.{HasContent, named_view}
 use Rattle.tq_device.specs.Parts.{entry_of, IsFitting}
 use Rattle.tq_device.proofs.Areas.{chosen_most}
 use Rattle.tq_device.proofs.Standing.{entry_fits, stands_parts, stands_kept}
 
 -- a content stays where the bytes of the header's clusters do
-pub below_stands : (d : DeviceContent) (old new : List ℕ) → length new ≡ length old → ((i : ℕ) → i < 131072 → get_or new i 0 ≡ get_or old i 0) → Stands d old → Stands d new
+pub below_stands : (d : DeviceContent) (old new : List ℕ) → length new ≡ length old → ((i : ℕ) → i < 131072 → get_or new i 0 ≡ get_or old i 0) → HasContent d old → HasContent d new
 below_stands d old new size same stands =
     let table = chosen_most d.table table_a table_b (omega arith) in
     let journal = chosen_most d.journal journal_a journal_b (omega arith) in
@@ -21,7 +21,7 @@ below_stands d old new size same stands =
     (λ i lt. sym (same (chosen d.journal journal_a journal_b + i) (omega (arith, lt, journal))))
 
 -- the clusters of a space that is named lie within the image
-pub stands_reach : (d : DeviceContent) (n : NamedSpace) (image : List ℕ) → d.named ≡ Some n → Stands d image → 131072 + 32768 * clusters_for n.pages ≤ length image
+pub stands_reach : (d : DeviceContent) (n : NamedSpace) (image : List ℕ) → d.named ≡ Some n → HasContent d image → 131072 + 32768 * clusters_for n.pages ≤ length image
 stands_reach d n image named stands =
     let fits = (stands_parts d image stands).table.fits in
     let is : option_map named_view d.named ≡ Some (named_view n) = ap (option_map named_view) named in

@@ -9,7 +9,7 @@ use Rattle.std.proofs.lemmas.Grind.{same_number_lists}
 use Rattle.tq_field.specs.Places.{run_at, number_at}
 use Rattle.tq_field.specs.Digits.{number_of}
 use Rattle.tq_field.proofs.Runs.{length-run_at, get_or-run_at}
-use Rattle.tq_host.specs.Calls.{StandsAt, IsSameOutside}
+use Rattle.tq_host.specs.Calls.{HasBytesAt, IsSameOutside}
 use Rattle.tq_model.specs.Reading.{RawHeader, RawEntry, RawTable, RawJournal, raw_header, raw_entry, raw_table, raw_journal, below, Test, test, is_reached, hold_all, header_tests, table_tests, has_space, entry_tests, journal_tests, unbuilt_tests, unbuilt_entry_tests, unbuilt_journal_tests}
 use Rattle.tq_model.specs.Names.{is_name}
 use Rattle.tq_model.specs.Site.{last_space, header_clusters, most_pages, clusters_for}
@@ -56,7 +56,7 @@ pub kept_number : (at n i k : ℕ) (old new : List ℕ) → IsSameOutside at n o
 kept_number at n i k old new outside apart fits_old fits_new = ap number_of (kept_run at n i k old new outside apart fits_old fits_new)
 
 -- bytes that stand at an address are the run there
-pub run_stands : (at : ℕ) (xs image : List ℕ) → at + length xs ≤ length image → StandsAt at xs image → run_at at (length xs) image ≡ xs
+pub run_stands : (at : ℕ) (xs image : List ℕ) → at + length xs ≤ length image → HasBytesAt at xs image → run_at at (length xs) image ≡ xs
 run_stands at xs image fits stands =
     let long = length-run_at at (length xs) image fits in
     same_number_lists (run_at at (length xs) image) xs long (λ j lt. let below : j < length xs = omega (arith, lt, long) in get_or-run_at at (length xs) image j 0 below ∙ stands j below)
@@ -70,7 +70,7 @@ same_below f g (suc n) each =
     ∙ sym (map-append g (below n) (n ∷ []))
 
 -- bytes that stand at an address
-pub stand : (n at : ℕ) (bytes image : List ℕ) → length bytes ≡ n → StandsAt at bytes image → AreSame n at 0 image bytes
+pub stand : (n at : ℕ) (bytes image : List ℕ) → length bytes ≡ n → HasBytesAt at bytes image → AreSame n at 0 image bytes
 stand n at bytes image size stands i lt = stands i (omega arith) ∙ (let e : i ≡ 0 + i = omega arith in ap (λ o. get_or bytes o 0) e)
 
 -- Parts with the same bytes

@@ -1,6 +1,6 @@
 -- What is read of an image says what is found on it.
 use Rattle.std.proofs.Common.{◌≡◌, ◌≤◌, ℕ, List, length, get_or, sym, ◌∙◌, ap, arith}
-use Rattle.tq_host.specs.Calls.{StandsAt}
+use Rattle.tq_host.specs.Calls.{HasBytesAt}
 use Rattle.tq_model.specs.Reading.{RawHeader, RawTable, RawJournal, raw_header, raw_table, raw_journal, table_a, table_b, journal_a, journal_b, device_part, device_tests, hold_all}
 use Rattle.tq_device.specs.Content.{IsFoundOn}
 use Rattle.tq_device.specs.Parts.{is_device, part_in}
@@ -10,7 +10,7 @@ use Rattle.tq_device.specs.declared.content.Found.TheVariants as found
 use Rattle.tq_device.proofs.Areas.{chosen_most}
 use Rattle.tq_device.proofs.Parts.{stand, header_same, table_same, journal_same, whole_parts}
 
-module _ (size : ℕ) (header table journal image : List ℕ) (size_h : length header ≡ 1024) (size_t : length table ≡ 2596) (size_j : length journal ≡ 1025) (long : 131072 ≤ size) (is_size : size ≡ length image) (stands_h : StandsAt 0 header image) (stands_t : StandsAt (raw_header header).table table image) (stands_j : StandsAt (raw_header header).journal journal image) (byte : get_or table 33 0 ≤ 255) where
+module _ (size : ℕ) (header table journal image : List ℕ) (size_h : length header ≡ 1024) (size_t : length table ≡ 2596) (size_j : length journal ≡ 1025) (long : 131072 ≤ size) (is_size : size ≡ length image) (stands_h : HasBytesAt 0 header image) (stands_t : HasBytesAt (raw_header header).table table image) (stands_j : HasBytesAt (raw_header header).journal journal image) (byte : get_or table 33 0 ≤ 255) where
   h : raw_header image ≡ raw_header header
   h = header_same image header (omega (arith, long, is_size)) (omega (arith, size_h)) (stand 1024 0 header image size_h stands_h)
 

@@ -12,7 +12,7 @@ use Rattle.tq_model.specs.Site.{last_space, header_clusters, most_pages, cluster
 use Rattle.tq_model.specs.Reading.{RawHeader, RawEntry, RawTable, RawJournal, raw_header, raw_entry, raw_table, raw_journal, is_reached, header_bytes, has_space, NamedSpace, named_in, DevicePart, chosen, table_a, table_b, journal_a, journal_b}
 use Rattle.tq_model.proofs.NameTests.{name_from_test}
 use Rattle.tq_device.specs.declared.content.DeviceContent.{DeviceContent}
-use Rattle.tq_device.specs.Content.{Stands, named_view, part_of}
+use Rattle.tq_device.specs.Content.{HasContent, named_view, part_of}
 use Rattle.tq_device.specs.Parts.{is_header, is_headed, is_base, is_numbered, has_clusters, is_first, is_placed, is_entry, is_table, is_journal, HasHeader, entry_of, IsEntered, IsFitting, IsTable, HasTable, HasJournal, part_in}
 use Rattle.tq_device.proofs.Areas.{chosen_least, chosen_most}
 use Rattle.tq_device.proofs.Unused.{single_used, single_decides}
@@ -254,7 +254,7 @@ pub record HasParts (d : DeviceContent) (image : List ℕ) : Type 0 where
   pub table : HasTable (chosen d.table table_a table_b) d.clusters d.next_space (option_map named_view d.named) image
   pub journal : HasJournal (chosen d.journal journal_a journal_b) d.epoch image
 
-pub stands_parts : (d : DeviceContent) (image : List ℕ) → Stands d image → HasParts d image
+pub stands_parts : (d : DeviceContent) (image : List ℕ) → HasContent d image → HasParts d image
 stands_parts d image stands =
     let h = raw_header image in
     let t = raw_table h.table image in
@@ -287,7 +287,7 @@ part_known h t j d site clusters next epoch named =
     ∙ ap (λ (e : ℕ). part d.site d.clusters d.next_space e (named_in t)) epoch
     ∙ ap (λ (o : Option NamedSpace). part d.site d.clusters d.next_space d.epoch o) named
 
-pub parts_stand : (d : DeviceContent) (image : List ℕ) → 131072 ≤ length image → get_or image 513 0 ≡ d.journal → get_or image 512 0 ≡ d.table → HasParts d image → Stands d image
+pub parts_stand : (d : DeviceContent) (image : List ℕ) → 131072 ≤ length image → get_or image 513 0 ≡ d.journal → get_or image 512 0 ≡ d.table → HasParts d image → HasContent d image
 parts_stand d image long journal_byte table_byte has =
     let h = raw_header image in
     let t = raw_table h.table image in
@@ -326,15 +326,15 @@ parts_kept d a b long longer first table journal parts =
     }
 
 -- and so does the content, with its selectors
-pub stands_kept : (d : DeviceContent) (a b : List ℕ) → Stands d a → length a ≤ length b → AreSame 514 0 0 a b
-    → AreSame 2596 (chosen d.table table_a table_b) (chosen d.table table_a table_b) a b → AreSame 1025 (chosen d.journal journal_a journal_b) (chosen d.journal journal_a journal_b) a b → Stands d b
+pub stands_kept : (d : DeviceContent) (a b : List ℕ) → HasContent d a → length a ≤ length b → AreSame 514 0 0 a b
+    → AreSame 2596 (chosen d.table table_a table_b) (chosen d.table table_a table_b) a b → AreSame 1025 (chosen d.journal journal_a journal_b) (chosen d.journal journal_a journal_b) a b → HasContent d b
 stands_kept d a b stands longer first table journal =
     let long = stands.size in
     parts_stand d b (omega (arith, long, longer)) (sym (first 513 (omega arith)) ∙ stands.journal) (sym (first 512 (omega arith)) ∙ stands.table)
     (parts_kept d a b long longer (λ i lt. first i (omega (arith, lt))) table journal (stands_parts d a stands))
 
 -- A content whose parts an image has is what another one holds that has its selectors, and else the same bytes.
-pub selected : (d : DeviceContent) (a b : List ℕ) → 131072 ≤ length a → length b ≡ length a → IsSameOutside 512 2 a b → HasParts d a → get_or b 513 0 ≡ d.journal → get_or b 512 0 ≡ d.table → Stands d b
+pub selected : (d : DeviceContent) (a b : List ℕ) → 131072 ≤ length a → length b ≡ length a → IsSameOutside 512 2 a b → HasParts d a → get_or b 513 0 ≡ d.journal → get_or b 512 0 ≡ d.table → HasContent d b
 selected d a b long size outside parts is_journal is_table =
     let at_t = chosen_least d.table table_a table_b (omega arith) in
     let at_j = chosen_least d.journal journal_a journal_b (omega arith) in
@@ -344,9 +344,9 @@ selected d a b long size outside parts is_journal is_table =
     (λ i lt. sym (outside (chosen d.journal journal_a journal_b + i) (inr (omega (arith, at_j))))) parts)
 
 -- The same where what was changed is apart from its parts.
-pub written_apart : (d : DeviceContent) (w n : ℕ) (a b : List ℕ) → Stands d a → length a ≤ length b → IsSameOutside w n a b → 514 ≤ w
+pub written_apart : (d : DeviceContent) (w n : ℕ) (a b : List ℕ) → HasContent d a → length a ≤ length b → IsSameOutside w n a b → 514 ≤ w
     → (chosen d.table table_a table_b + 2596 ≤ w) ⊎ (w + n ≤ chosen d.table table_a table_b)
-    → (chosen d.journal journal_a journal_b + 1025 ≤ w) ⊎ (w + n ≤ chosen d.journal journal_a journal_b) → Stands d b
+    → (chosen d.journal journal_a journal_b + 1025 ≤ w) ⊎ (w + n ≤ chosen d.journal journal_a journal_b) → HasContent d b
 written_apart d w n a b stands longer outside behind table journal =
     stands_kept d a b stands longer (λ i lt. sym (outside (0 + i) (inl (omega (arith, lt, behind)))))
     (λ i lt. sym (outside (chosen d.table table_a table_b + i) (⊎_elim (λ before. inl (omega (arith, before, lt))) (λ after. inr (omega (arith, after))) table)))

@@ -14,7 +14,7 @@ abbrev pub part_of : DeviceContent → DevicePart
 part_of d = record { site = d.site; clusters = d.clusters; next_space = d.next_space; epoch = d.epoch; named = option_map named_view d.named }
 
 -- an image holds this content, and its journal and its table are the ones of these selectors
-pub record Stands (d : DeviceContent) (image : List ℕ) : Type 0 where
+pub record HasContent (d : DeviceContent) (image : List ℕ) : Type 0 where
   pub size : 131072 ≤ length image
   pub tests : hold_all (device_tests 0 image) ≡ true
   pub part : device_part image ≡ part_of d
@@ -24,7 +24,7 @@ pub record Stands (d : DeviceContent) (image : List ℕ) : Type 0 where
 -- what is found on an image
 abbrev pub IsFoundOn : Found → List ℕ → Type 0
 IsFoundOn found.Blank image = length image < 131072
-IsFoundOn (found.Holds d) image = Stands d image
+IsFoundOn (found.Holds d) image = HasContent d image
 IsFoundOn found.Damaged image = (131072 ≤ length image) × (hold_all (device_tests 0 image) ≡ false)
 
 -- a space that is named lies within the limits of ordinals and pages
@@ -42,7 +42,7 @@ abbrev pub new_content : ℕ → ℕ → DeviceContent
 new_content site clusters = record { site = site; clusters = clusters; next_space = 1; epoch = 1; journal = 0; table = 0; named = None }
 
 abbrev pub IsBlankOrNew : ℕ → ℕ → List ℕ → Type 0
-IsBlankOrNew site clusters image = (length image < 131072) ⊎ Stands (new_content site clusters) image
+IsBlankOrNew site clusters image = (length image < 131072) ⊎ HasContent (new_content site clusters) image
 
 -- the same with the next epoch, its journal in the other area
 abbrev pub raised : DeviceContent → DeviceContent
@@ -51,14 +51,14 @@ raised d = record d { epoch = d.epoch + 1; journal = 1 - d.journal % 2 }
 -- The old content or the next one. A stop may leave any byte in the place of a selector that is written, and it still
 -- selects one of the two areas.
 abbrev pub IsOldOrRaised : DeviceContent → List ℕ → Type 0
-IsOldOrRaised d image = Stands (record d { journal = get_or image 513 0 }) image ⊎ Stands (record (raised d) { journal = get_or image 513 0 }) image
+IsOldOrRaised d image = HasContent (record d { journal = get_or image 513 0 }) image ⊎ HasContent (record (raised d) { journal = get_or image 513 0 }) image
 
 -- the same with a space of this name and so many pages, its table in the other area
 abbrev pub entered : DeviceContent → List ℕ → ℕ → DeviceContent
 entered d name pages = record d { next_space = d.next_space + 1; table = 1 - d.table % 2; named = Some (record { name = name; ordinal = d.next_space; pages = pages }) }
 
 abbrev pub IsOldOrEntered : DeviceContent → List ℕ × ℕ → List ℕ → Type 0
-IsOldOrEntered d n image = Stands (record d { table = get_or image 512 0 }) image ⊎ Stands (record (entered d n.0 n.1) { table = get_or image 512 0 }) image
+IsOldOrEntered d n image = HasContent (record d { table = get_or image 512 0 }) image ⊎ HasContent (record (entered d n.0 n.1) { table = get_or image 512 0 }) image
 
 -- the same but for the site journal: its two areas and its selector byte
 pub record IsSameButJournal (old new : List ℕ) : Type 0 where

@@ -1,6 +1,6 @@
 ghost use Rattle.std.specs.Prelude.{◌≡◌, ◌+◌, ◌≤◌, ℕ, length, get_or, codes};
 ghost use Rattle.tq_field.specs.Places.{number_at, run_at};
-ghost use Rattle.tq_host.specs.Calls.{IsSameOutside, StandsAt};
+ghost use Rattle.tq_host.specs.Calls.{IsSameOutside, HasBytesAt};
 
 use tq_field::{get_u16, get_u32, put_u16, put_u32};
 
@@ -58,7 +58,7 @@ pub(crate) fn set_short(bytes: &mut [u8], at: usize, n: u16)
 /// Writes these bytes from this place on, where they have to end within the others.
 pub(crate) fn set_run(bytes: &mut [u8], at: usize, run: &[u8])
     requires { at + length run.now ≤ length bytes.old }
-    ensures stands { StandsAt at run.now bytes.new }
+    ensures stands { HasBytesAt at run.now bytes.new }
     ensures outside { IsSameOutside at (length run.now) bytes.old bytes.new }
 {
     bytes[at..at + run.len()].copy_from_slice(run);

@@ -2,7 +2,7 @@ ghost use Rattle.std.specs.Prelude.{◌≡◌, ◌<◌, ◌≤◌, ◌+◌, ◌*
 ghost use Rattle.tq_host.specs.View.{IsSettled};
 ghost use Rattle.tq_host.specs.Calls.{HasCause};
 ghost use Rattle.tq_host.specs.Within.{KeepsRest, Within};
-ghost use Rattle.tq_device.specs.Content.{Stands, IsBlankOrNew, IsAnyStep, new_content};
+ghost use Rattle.tq_device.specs.Content.{HasContent, IsBlankOrNew, IsAnyStep, new_content};
 ghost use Rattle.tq_device.specs.Made.{IsShort, IsPaged, IsMadeTo, IsLaidOut, made_byte};
 
 use crate::DeviceContent;
@@ -26,7 +26,7 @@ pub fn create<H: Host>(
     requires blank { H.tells.reads → length ((H.view host.old).reads dev) < 131072 }
 
     ensures made { IfOk result (λ d. d ≡ new_content site clusters) }
-    ensures done { IfOk result (λ d. H.tells.reads → Stands d ((H.view host.new).reads dev)) }
+    ensures done { IfOk result (λ d. H.tells.reads → HasContent d ((H.view host.new).reads dev)) }
     ensures settled { OnOk result (IsSettled dev (H.view host.new)) }
     ensures stop { ((c : List ℕ) → (H.view host.old).may_leave dev c → length c < 131072)
         → Within dev IsAnyStep (IsBlankOrNew site clusters) (H.view host.old) (H.view host.new) }
@@ -153,7 +153,7 @@ fn write_page<H: Host>(host: &mut H, dev: u8, number: u64, start: &[u8]) -> Resu
 fn open<H: Host>(host: &mut H, dev: u8) -> Result<(), Failed>
     requires { dev < 8 }
     ensures done { OnOk result (H.tells.reads → (site : ℕ) (clusters : ℕ) → IsLaidOut site clusters ((H.view host.old).reads dev)
-        → Stands (new_content site clusters) ((H.view host.new).reads dev)) }
+        → HasContent (new_content site clusters) ((H.view host.new).reads dev)) }
     ensures settled { OnOk result (IsSettled dev (H.view host.new)) }
     ensures stop { (site : ℕ) (clusters : ℕ) → ((c : List ℕ) → (H.view host.old).may_leave dev c → IsLaidOut site clusters c)
         → Within dev IsAnyStep (IsBlankOrNew site clusters) (H.view host.old) (H.view host.new) }

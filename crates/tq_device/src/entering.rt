@@ -3,7 +3,7 @@ ghost use Rattle.tq_host.specs.View.{IsSettled};
 ghost use Rattle.tq_host.specs.Calls.{HasCause};
 ghost use Rattle.tq_host.specs.Within.{KeepsRest, Within};
 ghost use Rattle.tq_model.specs.Site.{clusters_for};
-ghost use Rattle.tq_device.specs.Content.{Stands, IsOldOrEntered, IsSameButTable, entered};
+ghost use Rattle.tq_device.specs.Content.{HasContent, IsOldOrEntered, IsSameButTable, entered};
 ghost use Rattle.tq_device.specs.Entered.{IsTableFilled};
 
 use crate::entries::entered_base;
@@ -31,14 +31,14 @@ pub fn enter<H: Host>(
     requires least { 1 ≤ pages }
     requires most { pages ≤ 262016 }
     requires clusters { 4 + clusters_for pages ≤ content.now.clusters }
-    requires holds { H.tells.reads → Stands content.now ((H.view host.old).reads dev) }
+    requires holds { H.tells.reads → HasContent content.now ((H.view host.old).reads dev) }
     requires reach { H.tells.reads → 131072 + 32768 * clusters_for pages ≤ length ((H.view host.old).reads dev) }
 
     ensures entered { IfOk result (λ d. d ≡ entered content.now name pages) }
-    ensures done { IfOk result (λ d. H.tells.reads → Stands d ((H.view host.new).reads dev)) }
+    ensures done { IfOk result (λ d. H.tells.reads → HasContent d ((H.view host.new).reads dev)) }
     ensures kept { OnOk result (H.tells.reads → IsSameButTable ((H.view host.old).reads dev) ((H.view host.new).reads dev)) }
     ensures settled { OnOk result (IsSettled dev (H.view host.new)) }
-    ensures stop { ((c : List ℕ) → (H.view host.old).may_leave dev c → Stands content.now c × (131072 + 32768 * clusters_for pages ≤ length c))
+    ensures stop { ((c : List ℕ) → (H.view host.old).may_leave dev c → HasContent content.now c × (131072 + 32768 * clusters_for pages ≤ length c))
         → Within dev IsSameButTable (IsOldOrEntered content.now (name, pages)) (H.view host.old) (H.view host.new) }
     ensures rest { KeepsRest dev (H.view host.old) (H.view host.new) }
     ensures cause { HasCause (H.view host.old).faults (H.view host.new).faults result }
@@ -60,14 +60,14 @@ fn fill_table<H: Host>(
     requires least { 1 ≤ pages }
     requires most { pages ≤ 262016 }
     requires clusters { 4 + clusters_for pages ≤ content.now.clusters }
-    requires holds { H.tells.reads → Stands content.now ((H.view host.old).reads dev) }
+    requires holds { H.tells.reads → HasContent content.now ((H.view host.old).reads dev) }
     requires reach { H.tells.reads → 131072 + 32768 * clusters_for pages ≤ length ((H.view host.old).reads dev) }
 
     ensures done { OnOk result (H.tells.reads → IsTableFilled content.now name.now pages ((H.view host.new).reads dev)) }
     ensures kept { OnOk result (H.tells.reads → IsSameButTable ((H.view host.old).reads dev) ((H.view host.new).reads dev)) }
     ensures settled { OnOk result (IsSettled dev (H.view host.new)) }
-    ensures stop { ((c : List ℕ) → (H.view host.old).may_leave dev c → Stands content.now c)
-        → Within dev IsSameButTable (Stands content.now) (H.view host.old) (H.view host.new) }
+    ensures stop { ((c : List ℕ) → (H.view host.old).may_leave dev c → HasContent content.now c)
+        → Within dev IsSameButTable (HasContent content.now) (H.view host.old) (H.view host.new) }
     ensures rest { KeepsRest dev (H.view host.old) (H.view host.new) }
     ensures cause { HasCause (H.view host.old).faults (H.view host.new).faults result }
 {
@@ -89,7 +89,7 @@ fn choose_table<H: Host>(
     requires holds { H.tells.reads → IsTableFilled content.now name.now pages ((H.view host.old).reads dev) }
 
     ensures entered { IfOk result (λ d. d ≡ entered content.now name.now pages) }
-    ensures done { IfOk result (λ d. H.tells.reads → Stands d ((H.view host.new).reads dev)) }
+    ensures done { IfOk result (λ d. H.tells.reads → HasContent d ((H.view host.new).reads dev)) }
     ensures kept { OnOk result (H.tells.reads → IsSameButTable ((H.view host.old).reads dev) ((H.view host.new).reads dev)) }
     ensures settled { OnOk result (IsSettled dev (H.view host.new)) }
     ensures stop { ((c : List ℕ) → (H.view host.old).may_leave dev c → IsTableFilled content.now name.now pages c)

@@ -1,6 +1,6 @@
 ghost use Rattle.std.specs.Prelude.{◌≡◌, ◌<◌, ◌≤◌, ◌+◌, length, get_or, Some};
 ghost use Rattle.tq_field.specs.Places.{number_at};
-ghost use Rattle.tq_host.specs.Calls.{IsSameOutside, StandsAt};
+ghost use Rattle.tq_host.specs.Calls.{IsSameOutside, HasBytesAt};
 ghost use Rattle.tq_types.specs.Name.{IsName};
 ghost use Rattle.tq_model.specs.Site.{clusters_for};
 ghost use Rattle.tq_device.specs.Parts.{IsTable};
@@ -28,7 +28,7 @@ fn set_name(base: &mut [u8], name: &Name)
     requires { length base.old ≡ 3072 }
     ensures used { get_or base.new 32 0 ≡ 1 }
     ensures size { get_or base.new 33 0 ≡ length name.now }
-    ensures text { StandsAt 34 name.now base.new }
+    ensures text { HasBytesAt 34 name.now base.new }
     ensures outside { IsSameOutside 32 17 base.old base.new }
     ensures name { IsName name.now }
 {

@@ -2,7 +2,7 @@ ghost use Rattle.std.specs.Prelude.{◌≡◌, ◌<◌, ◌≤◌, List, ℕ, If
 ghost use Rattle.tq_host.specs.View.{IsSettled};
 ghost use Rattle.tq_host.specs.Calls.{HasCause};
 ghost use Rattle.tq_host.specs.Within.{KeepsRest, Within};
-ghost use Rattle.tq_device.specs.Content.{Stands, IsOldOrRaised, IsSameButJournal, raised};
+ghost use Rattle.tq_device.specs.Content.{HasContent, IsOldOrRaised, IsSameButJournal, raised};
 ghost use Rattle.tq_device.specs.Raised.{IsFilled};
 
 use crate::DeviceContent;
@@ -21,13 +21,13 @@ pub fn raise_epoch<H: Host>(
 ) -> Result<DeviceContent, Failed>
     requires dev { dev < 8 }
     requires below { content.now.epoch < 4294967295 }
-    requires holds { H.tells.reads → Stands content.now ((H.view host.old).reads dev) }
+    requires holds { H.tells.reads → HasContent content.now ((H.view host.old).reads dev) }
 
     ensures raised { IfOk result (λ d. d ≡ raised content.now) }
-    ensures done { IfOk result (λ d. H.tells.reads → Stands d ((H.view host.new).reads dev)) }
+    ensures done { IfOk result (λ d. H.tells.reads → HasContent d ((H.view host.new).reads dev)) }
     ensures kept { OnOk result (H.tells.reads → IsSameButJournal ((H.view host.old).reads dev) ((H.view host.new).reads dev)) }
     ensures settled { OnOk result (IsSettled dev (H.view host.new)) }
-    ensures stop { ((c : List ℕ) → (H.view host.old).may_leave dev c → Stands content.now c)
+    ensures stop { ((c : List ℕ) → (H.view host.old).may_leave dev c → HasContent content.now c)
         → Within dev IsSameButJournal (IsOldOrRaised content.now) (H.view host.old) (H.view host.new) }
     ensures rest { KeepsRest dev (H.view host.old) (H.view host.new) }
     ensures cause { HasCause (H.view host.old).faults (H.view host.new).faults result }
@@ -40,13 +40,13 @@ pub fn raise_epoch<H: Host>(
 fn fill<H: Host>(host: &mut H, dev: u8, content: &DeviceContent) -> Result<(), Failed>
     requires dev { dev < 8 }
     requires below { content.now.epoch < 4294967295 }
-    requires holds { H.tells.reads → Stands content.now ((H.view host.old).reads dev) }
+    requires holds { H.tells.reads → HasContent content.now ((H.view host.old).reads dev) }
 
     ensures done { OnOk result (H.tells.reads → IsFilled content.now ((H.view host.new).reads dev)) }
     ensures kept { OnOk result (H.tells.reads → IsSameButJournal ((H.view host.old).reads dev) ((H.view host.new).reads dev)) }
     ensures settled { OnOk result (IsSettled dev (H.view host.new)) }
-    ensures stop { ((c : List ℕ) → (H.view host.old).may_leave dev c → Stands content.now c)
-        → Within dev IsSameButJournal (Stands content.now) (H.view host.old) (H.view host.new) }
+    ensures stop { ((c : List ℕ) → (H.view host.old).may_leave dev c → HasContent content.now c)
+        → Within dev IsSameButJournal (HasContent content.now) (H.view host.old) (H.view host.new) }
     ensures rest { KeepsRest dev (H.view host.old) (H.view host.new) }
     ensures cause { HasCause (H.view host.old).faults (H.view host.new).faults result }
 {
@@ -67,7 +67,7 @@ fn choose<H: Host>(host: &mut H, dev: u8, content: &DeviceContent) -> Result<Dev
     requires holds { H.tells.reads → IsFilled content.now ((H.view host.old).reads dev) }
 
     ensures raised { IfOk result (λ d. d ≡ raised content.now) }
-    ensures done { IfOk result (λ d. H.tells.reads → Stands d ((H.view host.new).reads dev)) }
+    ensures done { IfOk result (λ d. H.tells.reads → HasContent d ((H.view host.new).reads dev)) }
     ensures kept { OnOk result (H.tells.reads → IsSameButJournal ((H.view host.old).reads dev) ((H.view host.new).reads dev)) }
     ensures settled { OnOk result (IsSettled dev (H.view host.new)) }
     ensures stop { ((c : List ℕ) → (H.view host.old).may_leave dev c → IsFilled content.now c)

@@ -4,7 +4,7 @@ use Rattle.std.specs.Option.{option_map}
 use Rattle.std.proofs.lemmas.Bool.{cases_eq}
 use Rattle.tq_host.specs.declared.host.Failed.{Failed}
 use Rattle.tq_host.specs.View.{Told, View, IsLawful, IsSettled}
-use Rattle.tq_host.specs.Calls.{StandsAt, IsTorn, IsWritten, IsDeviceCall, IsStill, Changes}
+use Rattle.tq_host.specs.Calls.{HasBytesAt, IsTorn, IsWritten, IsDeviceCall, IsStill, Changes}
 use Rattle.tq_host.specs.Within.{Within}
 use Rattle.tq_host.proofs.Steps.{IsSteps}
 use Rattle.tq_host.proofs.Within.{starts, still, changes, weaker, in_a_row}
@@ -56,14 +56,14 @@ module _ (layout : Layout) (area : ℕ) (placed : IsPlaced layout area) where
       let is_c = behind end k v (length x) b c is_b (omega arith) (omega arith) torn_c in
       let torn_d = torn_of w (0 ∷ []) c d third (omega (arith, torn_b.no_shorter, torn_c.no_shorter)) in
       let is_d = behind end k w 1 c d is_c (omega arith) (omega arith) torn_d in
-      let number_d : StandsAt u bytes d = stands_still u w 1 bytes c d (stands_still u v (length x) bytes b c first.stands second.outside (inl (omega arith))) third.outside (inl (omega arith)) in
-      let run_d : StandsAt v x d = stands_still v w 1 x c d second.stands third.outside (inl (omega arith)) in
+      let number_d : HasBytesAt u bytes d = stands_still u w 1 bytes c d (stands_still u v (length x) bytes b c first.stands second.outside (inl (omega arith))) third.outside (inl (omega arith)) in
+      let run_d : HasBytesAt v x d = stands_still v w 1 x c d second.stands third.outside (inl (omega arith)) in
       let zero_at : w + 0 ≡ w = omega arith in
       record {
         fits = room;
         is = is_d;
-        number = subst (λ n. StandsAt n (digits 4 (length x)) d) at_u (subst (λ (l : List ℕ). StandsAt u l d) spelt number_d);
-        run = subst (λ n. StandsAt n x d) at_v run_d;
+        number = subst (λ n. HasBytesAt n (digits 4 (length x)) d) at_u (subst (λ (l : List ℕ). HasBytesAt u l d) spelt number_d);
+        run = subst (λ n. HasBytesAt n x d) at_v run_d;
         shut = sym (ap (λ n. get_or d n 0) (zero_at ∙ at_w)) ∙ third.stands 0 (omega arith);
       }
 

@@ -3,7 +3,7 @@ use Rattle.std.proofs.Common.{◌≡◌, inl, inr, ◌<◌, ◌≤◌, ℕ, zero
 use Rattle.tq_host.proofs.Bytes.{same_bytes}
 use Rattle.std.proofs.lemmas.List.{drop-drop}
 use borrow.Rule.Slice.PartMut.{put_mid}
-use Rattle.tq_host.specs.Calls.{StandsAt}
+use Rattle.tq_host.specs.Calls.{HasBytesAt}
 use Rattle.tq_host.proofs.Bytes.{before_or_after}
 use Rattle.tq_field.specs.Places.{run_at, with_run}
 use Rattle.tq_field.proofs.Runs.{length-run_at, get_or-run_at, length-with_run, get_or-with_run, get_or-with_run_below}
@@ -54,7 +54,7 @@ pub length-put_mid : (at n : ℕ) (old run : List ℕ) → length run ≡ n → 
 length-put_mid at n old run long within = ap length (put_mid-with_run at n old run) ∙ length-with_run at n run old long within
 
 -- bytes that were read so far, and the next ones behind them
-pub filled : (layout : Layout) (from at n w : ℕ) (old run image : List ℕ) → length run ≡ n → at + n ≤ length old → w ≡ address layout (from + at) → StandsAt w run image
+pub filled : (layout : Layout) (from at n w : ℕ) (old run image : List ℕ) → length run ≡ n → at + n ≤ length old → w ≡ address layout (from + at) → HasBytesAt w run image
     → ((i : ℕ) → i < at → get_or old i 0 ≡ get_or image (address layout (from + i)) 0)
     → (i : ℕ) → i < at + n → get_or (put_mid at (at + n - at) old run) i 0 ≡ get_or image (address layout (from + i)) 0
 filled layout from at n w old run image long within at_w stands before i lt = elim (before_or_after i at) [

@@ -2,7 +2,7 @@
 use Rattle.std.specs.Prelude.{◌≡◌, ◌⊎◌, ◌≤◌, ℕ, ◌+◌, ◌-◌, Some, List, [], ◌∷◌, ◌++◌, length, get_or}
 use Rattle.std.specs.Option.{option_map}
 use Rattle.tq_host.specs.View.{View}
-use Rattle.tq_host.specs.Calls.{StandsAt, IsSameBut}
+use Rattle.tq_host.specs.Calls.{HasBytesAt, IsSameBut}
 use Rattle.tq_field.specs.Digits.{digits}
 use Rattle.tq_gate.specs.declared.log.GateLog.{GateLog}
 use Rattle.tq_gate.specs.declared.layout.Layout.{Layout}
@@ -57,8 +57,8 @@ IsSameButLog log old new = IsSameButIn log.layout log.area old new
 pub record IsStagedIn (layout : Layout) (area end : ℕ) (k : Content) (payload image : List ℕ) : Type 0 where
   pub fits : end + 6 + length payload ≤ log_length layout
   pub is : IsOpen layout area end k image
-  pub number : StandsAt (log_address layout area (end + 1)) (digits 4 (length payload)) image
-  pub run : StandsAt (log_address layout area (end + 5)) payload image
+  pub number : HasBytesAt (log_address layout area (end + 1)) (digits 4 (length payload)) image
+  pub run : HasBytesAt (log_address layout area (end + 5)) payload image
   pub shut : get_or image (log_address layout area (end + 5 + length payload)) 0 ≡ 0
 
 abbrev pub IsStaged : GateLog → Content → List ℕ → List ℕ → Type 0

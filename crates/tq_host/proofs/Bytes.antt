@@ -1,7 +1,7 @@
 -- Bytes on a device.
 use Rattle.std.proofs.Common.{◌≡◌, ◌⊎◌, inl, inr, ⊎_elim, ◌<◌, ◌≤◌, ℕ, suc, ◌+◌, ◌-◌, List, [], ◌∷◌, ◌++◌, length, get_or, refl, sym, ◌∙◌, ap, subst, arith, length-append}
 use Rattle.std.proofs.lemmas.List.{get_or_append_left, get_or-append_right}
-use Rattle.tq_host.specs.Calls.{StandsAt, IsSameOutside, IsSameBut, IsTorn, IsWritten, IsPulled}
+use Rattle.tq_host.specs.Calls.{HasBytesAt, IsSameOutside, IsSameBut, IsTorn, IsWritten, IsPulled}
 use Rattle.tq_host.proofs.Steps.{IsSteps}
 
 pub before_or_after : (i n : ℕ) → (i < n) ⊎ (n ≤ i)
@@ -22,11 +22,11 @@ torn_within at size w n b c from to long torn = record {
 }
 
 -- bytes apart from a write stay
-pub stands_still : (a w n : ℕ) (xs b c : List ℕ) → StandsAt a xs b → IsSameOutside w n b c → (a + length xs ≤ w) ⊎ (w + n ≤ a) → StandsAt a xs c
+pub stands_still : (a w n : ℕ) (xs b c : List ℕ) → HasBytesAt a xs b → IsSameOutside w n b c → (a + length xs ≤ w) ⊎ (w + n ≤ a) → HasBytesAt a xs c
 stands_still a w n xs b c stands same apart i lt = same (a + i) (⊎_elim (λ before. inl (omega arith)) (λ after. inr (omega arith)) apart) ∙ stands i lt
 
 -- two runs of bytes, one behind the other, are one
-pub stands_both : (a : ℕ) (xs ys c : List ℕ) → StandsAt a xs c → StandsAt (a + length xs) ys c → StandsAt a (xs ++ ys) c
+pub stands_both : (a : ℕ) (xs ys c : List ℕ) → HasBytesAt a xs c → HasBytesAt (a + length xs) ys c → HasBytesAt a (xs ++ ys) c
 stands_both a xs ys c first second i lt = elim (before_or_after i (length xs)) [
   | inl before ↦ first i before ∙ sym (get_or_append_left xs ys 0 i before)
   | inr after ↦
@@ -35,7 +35,7 @@ stands_both a xs ys c first second i lt = elim (before_or_after i (length xs)) [
 ]
 
 -- a single byte
-pub stands_one : (a x : ℕ) (c : List ℕ) → get_or c a 0 ≡ x → StandsAt a (x ∷ []) c
+pub stands_one : (a x : ℕ) (c : List ℕ) → get_or c a 0 ≡ x → HasBytesAt a (x ∷ []) c
 stands_one a x c is i lt = let e : i ≡ 0 = omega arith in subst (λ k. get_or c (a + k) 0 ≡ get_or (x ∷ []) k 0) (sym e) (let z : a + 0 ≡ a = omega arith in ap (λ k. get_or c k 0) z ∙ is)
 
 -- nothing is changed
@@ -69,15 +69,15 @@ same_but_wider at n wide m b c from to same = record {
 }
 
 -- a part of bytes that stand
-pub stands_first : (a : ℕ) (xs ys c : List ℕ) → StandsAt a (xs ++ ys) c → StandsAt a xs c
+pub stands_first : (a : ℕ) (xs ys c : List ℕ) → HasBytesAt a (xs ++ ys) c → HasBytesAt a xs c
 stands_first a xs ys c stands i lt = stands i (omega (arith, lt, length-append xs ys)) ∙ get_or_append_left xs ys 0 i lt
 
-pub stands_second : (a : ℕ) (xs ys c : List ℕ) → StandsAt a (xs ++ ys) c → StandsAt (a + length xs) ys c
+pub stands_second : (a : ℕ) (xs ys c : List ℕ) → HasBytesAt a (xs ++ ys) c → HasBytesAt (a + length xs) ys c
 stands_second a xs ys c stands i lt =
     let e : a + length xs + i ≡ a + (length xs + i) = omega arith in
     let k : length xs + i - length xs ≡ i = omega arith in
     ap (λ n. get_or c n 0) e ∙ stands (length xs + i) (omega (arith, lt, length-append xs ys)) ∙ get_or-append_right xs ys (length xs) (length xs + i) 0 refl (omega arith) ∙ ap (λ n. get_or ys n 0) k
 
 -- bytes that stand in both images are equal
-pub stands_same : (a : ℕ) (xs ys c : List ℕ) → length xs ≡ length ys → StandsAt a xs c → StandsAt a ys c → xs ≡ ys
+pub stands_same : (a : ℕ) (xs ys c : List ℕ) → length xs ≡ length ys → HasBytesAt a xs c → HasBytesAt a ys c → xs ≡ ys
 stands_same a xs ys c long first second = same_bytes xs ys long (λ i lt. sym (first i (omega (arith, lt, long))) ∙ second i lt)

@@ -13,8 +13,8 @@ Rose before now = next before ≤ now
 -- Bytes on a device
 
 -- these bytes stand at this address
-abbrev pub StandsAt : ℕ → List ℕ → List ℕ → Type 0
-StandsAt at bytes image = (i : ℕ) → i < length bytes → get_or image (at + i) 0 ≡ get_or bytes i 0
+abbrev pub HasBytesAt : ℕ → List ℕ → List ℕ → Type 0
+HasBytesAt at bytes image = (i : ℕ) → i < length bytes → get_or image (at + i) 0 ≡ get_or bytes i 0
 
 -- outside n bytes from that address on, both have the same bytes
 abbrev pub IsSameOutside : ℕ → ℕ → List ℕ → List ℕ → Type 0
@@ -27,7 +27,7 @@ pub record IsSameBut (at n : ℕ) (old new : List ℕ) : Type 0 where
 
 -- after a write
 pub record IsWritten (at : ℕ) (bytes old new : List ℕ) : Type 0 where
-  pub stands : StandsAt at bytes new
+  pub stands : HasBytesAt at bytes new
   pub outside : IsSameOutside at (length bytes) old new
   pub size : length new ≡ max (length old) (at + length bytes)
 

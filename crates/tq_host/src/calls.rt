@@ -2,7 +2,7 @@ ghost use Rattle.std.specs.Prelude.{◌≡◌, ◌<◌, ◌≤◌, ◌+◌, ◌-
 ghost use Rattle.tq_host.specs.declared.counts.Part.TheVariants.{Devices, Input, Output};
 ghost use Rattle.tq_host.specs.declared.kind.CallKind.TheVariants as kind;
 ghost use Rattle.tq_host.specs.Counts.{raised, NoneFalls};
-ghost use Rattle.tq_host.specs.Calls.{StandsAt};
+ghost use Rattle.tq_host.specs.Calls.{HasBytesAt};
 ghost use Rattle.tq_host.specs.Events.{write, lost_write, resize, lost_resize, sync, take_some, give_all, pass};
 ghost use Rattle.tq_host.specs.Account.{IsRecorded};
 ghost use Rattle.tq_host.specs.Outside.{account_of, state_of};
@@ -52,7 +52,7 @@ impl Outside {
         requires within { at + length into.old ≤ length ((state_of self.old).disks dev).seen }
         ensures recorded { IsRecorded Devices result (λ _. pass kind.Read) (pass kind.Read) (account_of self.old) (account_of self.new) }
         ensures planned { IsTrue fails → IsErr result }
-        ensures bytes { OnOk result (StandsAt at into.new ((state_of self.old).disks dev).seen) }
+        ensures bytes { OnOk result (HasBytesAt at into.new ((state_of self.old).disks dev).seen) }
     {
         self.look(CallKind::Read, fails)?;
         into.copy_from_slice(&self.devices[dev as usize][at..at + into.len()]);

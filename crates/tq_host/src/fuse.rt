@@ -1,7 +1,7 @@
 ghost use Rattle.std.specs.Prelude.{◌≡◌, ◌<◌, ◌≤◌, ◌+◌, length, IfOk, OnOk, OnErr};
 ghost use Rattle.tq_host.specs.declared.counts.Part.TheVariants.{Devices, Input, Output};
 ghost use Rattle.tq_host.specs.Counts.{no_faults, NoneFalls};
-ghost use Rattle.tq_host.specs.Calls.{StandsAt, IsWritten, IsTorn, IsResized, IsPulled, Elapses, IsDeviceCall, IsStill, Changes, Syncs, IsStreamCall, Takes, Gives, ElapsesGiving};
+ghost use Rattle.tq_host.specs.Calls.{HasBytesAt, IsWritten, IsTorn, IsResized, IsPulled, Elapses, IsDeviceCall, IsStill, Changes, Syncs, IsStreamCall, Takes, Gives, ElapsesGiving};
 
 use crate::counts::{Counts, Part};
 use crate::{Failed, Host};
@@ -110,7 +110,7 @@ impl<H: Host> Host for FuseHost<H> {
     fn read_at(&mut self, dev: u8, at: u64, into: &mut [u8]) -> Result<(), Failed>
         requires dev { dev < 8 }
         requires within { H.tells.reads → at + length into.old ≤ length ((fused_view H.view self.old).reads dev) }
-        ensures bytes { OnOk result (H.tells.reads → StandsAt at into.new ((fused_view H.view self.old).reads dev)) }
+        ensures bytes { OnOk result (H.tells.reads → HasBytesAt at into.new ((fused_view H.view self.old).reads dev)) }
         ensures call { IsDeviceCall result (fused_view H.view self.old) (fused_view H.view self.new) }
         ensures still { IsStill (fused_view H.view self.old) (fused_view H.view self.new) }
         ensures fuse { IsFused Devices result self.old self.new }

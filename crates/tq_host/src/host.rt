@@ -1,6 +1,6 @@
 ghost use Rattle.std.specs.Prelude.{◌≡◌, ◌<◌, ◌≤◌, ◌+◌, List, ℕ, length, IfOk, OnOk, OnErr, IsOk};
 ghost use Rattle.tq_host.specs.View.{Told, View, IsLawful};
-ghost use Rattle.tq_host.specs.Calls.{StandsAt, IsWritten, IsTorn, IsResized, IsPulled, Elapses, IsDeviceCall, IsStill, Changes, Syncs, IsStreamCall, Takes, Gives, ElapsesGiving};
+ghost use Rattle.tq_host.specs.Calls.{HasBytesAt, IsWritten, IsTorn, IsResized, IsPulled, Elapses, IsDeviceCall, IsStill, Changes, Syncs, IsStreamCall, Takes, Gives, ElapsesGiving};
 
 use thiserror::Error;
 
@@ -59,7 +59,7 @@ pub trait Host {
     fn read_at(&mut self, dev: u8, at: u64, into: &mut [u8]) -> Result<(), Failed>
         requires dev { dev < 8 }
         requires within { tells.reads → at + length into.old ≤ length ((view self.old).reads dev) }
-        ensures bytes { OnOk result (tells.reads → StandsAt at into.new ((view self.old).reads dev)) }
+        ensures bytes { OnOk result (tells.reads → HasBytesAt at into.new ((view self.old).reads dev)) }
         ensures call { IsDeviceCall result (view self.old) (view self.new) }
         ensures still { IsStill (view self.old) (view self.new) };
 

@@ -4,7 +4,7 @@ ghost use Rattle.tq_host.specs.declared.kind.CallKind.TheVariants as kind;
 ghost use Rattle.tq_host.specs.declared.plan.Planned.TheVariants.{Call, OfKind};
 ghost use Rattle.tq_host.specs.Counts.{no_faults};
 ghost use Rattle.tq_host.specs.Plan.{made_of, IsPlanSame, IsPlanAdded};
-ghost use Rattle.tq_host.specs.Calls.{StandsAt, IsWritten, IsTorn, IsResized, IsPulled, Elapses, IsDeviceCall, IsStill, Changes, Syncs, IsStreamCall, Takes, Gives, ElapsesGiving};
+ghost use Rattle.tq_host.specs.Calls.{HasBytesAt, IsWritten, IsTorn, IsResized, IsPulled, Elapses, IsDeviceCall, IsStill, Changes, Syncs, IsStreamCall, Takes, Gives, ElapsesGiving};
 ghost use Rattle.tq_host.specs.Events.{load, write, lost_write, resize, lost_resize, sync, take_some, give_all, pass};
 ghost use Rattle.tq_host.specs.Account.{everything, view_of};
 ghost use Rattle.tq_host.specs.Outside.{account_of};
@@ -139,7 +139,7 @@ impl Host for MemHost {
     fn read_at(&mut self, dev: u8, at: u64, into: &mut [u8]) -> Result<(), Failed>
         requires dev { dev < 8 }
         requires within { everything.reads → at + length into.old ≤ length ((mem_view_of self.old).reads dev) }
-        ensures bytes { OnOk result (everything.reads → StandsAt at into.new ((mem_view_of self.old).reads dev)) }
+        ensures bytes { OnOk result (everything.reads → HasBytesAt at into.new ((mem_view_of self.old).reads dev)) }
         ensures call { IsDeviceCall result (mem_view_of self.old) (mem_view_of self.new) }
         ensures still { IsStill (mem_view_of self.old) (mem_view_of self.new) }
         ensures made { IsMade Devices kind.Read result (λ _. pass kind.Read) (pass kind.Read) self.old self.new }

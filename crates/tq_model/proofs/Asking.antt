@@ -15,13 +15,13 @@ use Rattle.tq_model.specs.declared.machine.asked.Asked.{Asked}
 use Rattle.tq_model.specs.declared.machine.asked.Asked.TheVariants.{Queue, Dequeue}
 use Rattle.tq_model.specs.SpaceForm.{gone_length, made_length}
 use Rattle.tq_model.specs.DequeueStep.{dequeue_refusal}
-use Rattle.tq_model.specs.Site.{Site, Volume, Placed, has_name, site_spaces, space_named, with_space, volume_of}
+use Rattle.tq_model.specs.Site.{Site, Volume, SpaceOnDevice, has_name, site_spaces, space_named, with_space, volume_of}
 use Rattle.tq_model.specs.Step.{Outcome, unless, has_queue, log_refusal, call_refusal, queue_refusal, create_queue, create_queue_in, dequeue, dequeue_in, dequeue_call, logged_with, space_refusal, on_volume_refusal}
 use Rattle.tq_model.specs.Asked.{payload_length, space_name, space_after, placed_after, refusal_of, granted_in, asked_in, asked_step}
 use Rattle.tq_model.specs.Tables.{AreSound, entry_of, entry_changed}
 use Rattle.tq_model.proofs.Sites.{devices-changed, changed-alike, find-passes}
 
-call-refused : (r : Option CallAnswer) (p : Placed) (n : ℕ) → call_refusal r p n ≡ option_or (option_map answers.Call r) (log_refusal p n)
+call-refused : (r : Option CallAnswer) (p : SpaceOnDevice) (n : ℕ) → call_refusal r p n ≡ option_or (option_map answers.Call r) (log_refusal p n)
 call-refused None p n = refl
 call-refused (Some r) p n = refl
 
@@ -30,7 +30,7 @@ chosen-or true b x y o = refl
 chosen-or false true x y o = refl
 chosen-or false false x y o = refl
 
-queue-refused : (c : Bor QueueCreation) (clock : ℕ) (p : Placed) → queue_refusal c.now p ≡ refusal_of (Queue c) clock p
+queue-refused : (c : Bor QueueCreation) (clock : ℕ) (p : SpaceOnDevice) → queue_refusal c.now p ≡ refusal_of (Queue c) clock p
 queue-refused c clock p =
     chosen-or (has_queue c.now.queue p.space) (nat_le p.space.limits.queues (length p.space.queues)) (answers.Space spaces.Taken) (answers.Space (spaces.QueueFull p.space.limits.queues))
     (log_refusal p (made_length c.now.queue))
@@ -41,14 +41,14 @@ same-number o = ap (λ (n : ℕ). let p : Outcome = record o { site = record o.s
 pub queue-asked : (c : Bor QueueCreation) (s : Site) → create_queue c.now s ≡ asked_step (Queue c) s
 queue-asked c s = asked (space_named c.now.space s)
   where
-    asked : (o : Option Placed) → create_queue_in c.now s o ≡ asked_in (Queue c) s o
+    asked : (o : Option SpaceOnDevice) → create_queue_in c.now s o ≡ asked_in (Queue c) s o
     asked None = refl
     asked (Some p) = (λ i. unless (queue-refused c s.clock p i) s (same-number (granted_in (Queue c) s p) i))
 
 pub dequeue-asked : (w : Bor DequeueWords) (s : Site) → dequeue w.now s ≡ asked_step (Dequeue w) s
 dequeue-asked w s = asked (space_named w.now.space s)
   where
-    asked : (o : Option Placed) → dequeue_in w.now s o ≡ asked_in (Dequeue w) s o
+    asked : (o : Option SpaceOnDevice) → dequeue_in w.now s o ≡ asked_in (Dequeue w) s o
     asked None = refl
     asked (Some p) =
         (λ i. unless (call-refused (dequeue_refusal p.space (dequeue_call w.now) s.clock) p gone_length i) s (same-number (granted_in (Dequeue w) s p) i))
@@ -59,7 +59,7 @@ pub some-of : {X : Type 0} (P : X → Type 0) (o : Option X) → MatchOption o �
 some-of P None h = absurd h
 some-of P (Some x) h = (x, refl, h)
 
-pub granted-devices : (asked : Asked) (clock : ℕ) (next : Arrival) (s : Site) (dev entry : ℕ) (p : Placed) → AreSound s.devices → space_named (space_name asked) s ≡ Some p
+pub granted-devices : (asked : Asked) (clock : ℕ) (next : Arrival) (s : Site) (dev entry : ℕ) (p : SpaceOnDevice) → AreSound s.devices → space_named (space_name asked) s ≡ Some p
     → space_named (space_name asked) s ≡ entry_of (get_or s.devices dev None) entry
     → set s.devices dev (option_map (entry_changed entry (placed_after asked clock next)) (get_or s.devices dev None))
     ≡ (with_space (space_name asked) (logged_with (payload_length asked) (space_after asked clock next p.space)) s).devices

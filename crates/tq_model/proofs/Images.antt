@@ -6,11 +6,11 @@ use Rattle.std.proofs.lemmas.Bool.Decides.{nat_tests}
 use Rattle.std.proofs.lemmas.List.Folds.{list_all-append}
 use Rattle.tq_model.specs.Space.{Space, crashed}
 use Rattle.tq_model.specs.Moves.{IndexedSpace}
-use Rattle.tq_model.specs.Plain.{IsPlainSpace}
+use Rattle.tq_model.specs.Plain.{KeepsAllAtCrash}
 use Rattle.tq_model.specs.SpaceForm.{raw_space, shape_of, empty_space, replayed}
 use Rattle.tq_model.proofs.RecordMoves.{crashed_plain}
 use Rattle.tq_model.proofs.Replays.{replayed_plain, empty_plain}
-use Rattle.tq_model.specs.Site.{Site, Placed, durable}
+use Rattle.tq_model.specs.Site.{Site, SpaceOnDevice, durable}
 use Rattle.tq_model.specs.Parts.{IsPart}
 use Rattle.tq_model.specs.Reading.{Test, Content, Reading, Blank, Holds, Damaged, reading, is_whole, content_of, content_with, site_read, site_found, combined, DevicePart, NamedSpace, device_part, device_tests, space_tests, page_tests, hold_all, replayed_in, placed_as, placed_in, space_start, log_start, Replayed, test, space_in, payloads_in, epoch_bound}
 
@@ -37,10 +37,10 @@ whole_is image d a b tests part spaces =
     ∙ ap (λ (p : DevicePart). a && hold_all (space_tests 0 p p.named image)) part ∙ ap (λ (x : Bool). a && x) spaces
 
 -- an image with parts, and a space where its table names one
-pub part_reading : (d : DevicePart) (placed : Option Placed) (image : List ℕ) → IsPart d image → hold_all (space_tests 0 d d.named image) ≡ true → placed_in 0 d image ≡ placed → reading 0 image ≡ Holds (content_with d placed)
+pub part_reading : (d : DevicePart) (placed : Option SpaceOnDevice) (image : List ℕ) → IsPart d image → hold_all (space_tests 0 d d.named image) ≡ true → placed_in 0 d image ≡ placed → reading 0 image ≡ Holds (content_with d placed)
 part_reading d placed image is spaces e =
     long_reading image true is.size (whole_is image d true true is.tests is.part spaces)
-    ∙ ap (λ (p : DevicePart). Holds (content_with p (placed_in 0 p image))) is.part ∙ ap (λ (o : Option Placed). Holds (content_with d o)) e
+    ∙ ap (λ (p : DevicePart). Holds (content_with p (placed_in 0 p image))) is.part ∙ ap (λ (o : Option SpaceOnDevice). Holds (content_with d o)) e
 
 -- the parts are damaged, or the space is
 pub damaged_parts : (image : List ℕ) → 131072 ≤ length image → hold_all (device_tests 0 image) ≡ false → reading 0 image ≡ Damaged
@@ -91,10 +91,10 @@ pub found_damaged : (images : ℕ → List ℕ) → reading 0 (images 0) ≡ Dam
 found_damaged images is = ap (λ (r : Reading). combined (r ∷ [])) is
 
 -- a space that a crash leaves as it is
-pub record OutlivesCrash (placed : Option Placed) : Type 0 where
-  pub same : (p : Placed) → placed ≡ Some p → crashed p.space ≡ p.space
+pub record OutlivesCrash (placed : Option SpaceOnDevice) : Type 0 where
+  pub same : (p : SpaceOnDevice) → placed ≡ Some p → crashed p.space ≡ p.space
 
-pub durable_read : (d : DevicePart) (placed : Option Placed) → OutlivesCrash placed → durable (site_read (Holds (content_with d placed) ∷ [])) ≡ site_read (Holds (content_with d placed) ∷ [])
+pub durable_read : (d : DevicePart) (placed : Option SpaceOnDevice) → OutlivesCrash placed → durable (site_read (Holds (content_with d placed) ∷ [])) ≡ site_read (Holds (content_with d placed) ∷ [])
 durable_read d None is = refl
 durable_read d (Some p) is = ap (λ (s : Space). site_read (Holds (content_with d (Some (record p { space = s }))) ∷ [])) (is.same p refl)
 
@@ -104,33 +104,33 @@ some_replayed : (a b : Replayed) → Some a ≡ Some b → a ≡ b
 some_replayed a b e = cc
 
 -- a space that a log makes is plain
-space_in_plain : (site number epoch pages : ℕ) (image : List ℕ) (r : Replayed) → space_in site number epoch pages image ≡ Some r → IsPlainSpace r.space
+space_in_plain : (site number epoch pages : ℕ) (image : List ℕ) (r : Replayed) → space_in site number epoch pages image ≡ Some r → KeepsAllAtCrash r.space
 space_in_plain site number epoch pages image r e = from_payloads (payloads_in pages image) e
   where
     from_payloads : (o : Option (List (List ℕ)))
-        → option_and_then (λ payloads. option_map (λ s. record { payloads = payloads; space = s }) (replayed epoch payloads (empty_space (shape_of pages (raw_space space_start image)) site number))) o ≡ Some r → IsPlainSpace r.space
+        → option_and_then (λ payloads. option_map (λ s. record { payloads = payloads; space = s }) (replayed epoch payloads (empty_space (shape_of pages (raw_space space_start image)) site number))) o ≡ Some r → KeepsAllAtCrash r.space
     from_payloads None e = absurd (cc)
     from_payloads (Some payloads) e = from_space (replayed epoch payloads (empty_space (shape_of pages (raw_space space_start image)) site number)) refl e
       where
         from_space : (o : Option IndexedSpace) → replayed epoch payloads (empty_space (shape_of pages (raw_space space_start image)) site number) ≡ o
-            → option_map (λ s. record { payloads = payloads; space = s }) o ≡ Some r → IsPlainSpace r.space
+            → option_map (λ s. record { payloads = payloads; space = s }) o ≡ Some r → KeepsAllAtCrash r.space
         from_space None is e = absurd (cc)
         from_space (Some t) is e =
-            subst (λ (x : Replayed). IsPlainSpace x.space) (some_replayed (record { payloads = payloads; space = t }) r e)
+            subst (λ (x : Replayed). KeepsAllAtCrash x.space) (some_replayed (record { payloads = payloads; space = t }) r e)
             (replayed_plain epoch payloads (empty_space (shape_of pages (raw_space space_start image)) site number) t (empty_plain (shape_of pages (raw_space space_start image)) site number) is)
 
 placed_outlives : (d : DevicePart) (named : Option NamedSpace) (image : List ℕ) → OutlivesCrash (option_and_then (λ (n : NamedSpace). option_map (placed_as n) (replayed_in 0 d n image)) named)
 placed_outlives d None image = record { same = λ p e. absurd (cc) }
 placed_outlives d (Some n) image = by_replay (replayed_in 0 d n image) refl
   where
-    some_placed : (a b : Placed) → Some a ≡ Some b → a ≡ b
+    some_placed : (a b : SpaceOnDevice) → Some a ≡ Some b → a ≡ b
     some_placed a b e = cc
 
     by_replay : (o : Option Replayed) → replayed_in 0 d n image ≡ o → OutlivesCrash (option_map (placed_as n) o)
     by_replay None is = record { same = λ p e. absurd (cc) }
     by_replay (Some r) is = record {
       same = λ p e.
-          subst (λ (x : Placed). crashed x.space ≡ x.space) (some_placed (placed_as n r) p e)
+          subst (λ (x : SpaceOnDevice). crashed x.space ≡ x.space) (some_placed (placed_as n r) p e)
           (crashed_plain r.space (space_in_plain d.site (8 * n.ordinal + 0) (epoch_bound 0 d) n.pages image r is));
     }
 

@@ -11,8 +11,8 @@ use Rattle.tq_types.specs.declared.identifiers.MsgId.{MsgId}
 use Rattle.tq_types.specs.declared.rooms.Lack.{Lack}
 use Rattle.tq_types.specs.declared.rooms.Resource.TheVariants.{Messages, Pages}
 use Rattle.tq_model.specs.Held.{IsWithinLimits}
-use Rattle.tq_model.specs.Space.{Space, Queue, Item, change_first, has_id, holds_id, is_named, is_expired, outlives, freed, stands_before, with_item, with_item_in, without_item, space_without, purged, purged_queue, crashed, crashed_queue}
-use Rattle.tq_model.specs.Room.{item_pages, queue_pages, pages_held, messages_held, first_lacking, message_rooms}
+use Rattle.tq_model.specs.Space.{Space, Queue, Entry, change_first, has_id, holds_id, is_named, is_expired, outlives, freed, stands_before, with_entry, with_entry_in, without_entry, space_without, purged, purged_queue, crashed, crashed_queue}
+use Rattle.tq_model.specs.Room.{pages_of_entry, queue_pages, pages_held, messages_held, first_lacking, message_rooms}
 use Rattle.tq_model.proofs.Maps.{sum_by-map}
 use Rattle.tq_model.proofs.Places.{position_or_len-within}
 use Rattle.tq_model.proofs.QueueLists.{remove-past}
@@ -57,27 +57,27 @@ remove-less g (x ∷ xs) at =
     (λ past. omega (arith, ap (sum_by g) (remove-past (x ∷ xs) at past)))
     (cases_lt at (length (x ∷ xs)))
 
-with_item-length : (item : Item) (queue : Queue) → length_of (with_item item queue) ≤ length_of queue + 1
-with_item-length item queue =
+with_entry-length : (item : Entry) (queue : Queue) → length_of (with_entry item queue) ≤ length_of queue + 1
+with_entry-length item queue =
     let place = position_or_len (stands_before queue.order item) queue.items in
     omega (arith, length-insert queue.items place item (position_or_len-within (stands_before queue.order item) queue.items))
 
-with_item-pages : (item : Item) (queue : Queue) → queue_pages (with_item item queue) ≤ queue_pages queue + item_pages item
-with_item-pages item queue = omega (arith, sum_by-insert item_pages queue.items (position_or_len (stands_before queue.order item) queue.items) item)
+with_entry-pages : (item : Entry) (queue : Queue) → queue_pages (with_entry item queue) ≤ queue_pages queue + pages_of_entry item
+with_entry-pages item queue = omega (arith, sum_by-insert pages_of_entry queue.items (position_or_len (stands_before queue.order item) queue.items) item)
 
 purged-length : (clock : ℕ) (queue : Queue) → length_of (purged_queue clock queue) ≤ length_of queue
 purged-length clock queue = filter-most (λ item. not (is_expired clock item)) queue.items
 
 purged-pages : (clock : ℕ) (queue : Queue) → queue_pages (purged_queue clock queue) ≤ queue_pages queue
-purged-pages clock queue = filter-less item_pages (λ item. not (is_expired clock item)) queue.items
+purged-pages clock queue = filter-less pages_of_entry (λ item. not (is_expired clock item)) queue.items
 
 crashed-length : (queue : Queue) → length_of (crashed_queue queue) ≤ length_of queue
 crashed-length queue = omega (arith, length-map (filter outlives queue.items) freed, filter-most outlives queue.items)
 
 crashed-pages : (queue : Queue) → queue_pages (crashed_queue queue) ≤ queue_pages queue
 crashed-pages queue =
-    let same : queue_pages (crashed_queue queue) ≡ sum_by item_pages (filter outlives queue.items) = sum_by-map freed item_pages (filter outlives queue.items) in
-    omega (arith, filter-less item_pages outlives queue.items)
+    let same : queue_pages (crashed_queue queue) ≡ sum_by pages_of_entry (filter outlives queue.items) = sum_by-map freed pages_of_entry (filter outlives queue.items) in
+    omega (arith, filter-less pages_of_entry outlives queue.items)
 
 -- Spaces
 
@@ -98,8 +98,8 @@ pub within-taken : (id : MsgId) (clock : ℕ) (s : Space) → IsWithinLimits s �
 within-taken id clock s within =
     let queues = map (purged_queue clock) s.queues in
     record {
-      messages = omega (arith, sum-first-most length_of (holds_id id) (without_item id) 0 (λ queue. omega (arith, remove-most queue.items (position_or_len (has_id id) queue.items))) queues, purged-messages clock s, within.messages);
-      pages = omega (arith, sum-first-most queue_pages (holds_id id) (without_item id) 0 (λ queue. omega (arith, remove-less item_pages queue.items (position_or_len (has_id id) queue.items))) queues, purged-held clock s, within.pages);
+      messages = omega (arith, sum-first-most length_of (holds_id id) (without_entry id) 0 (λ queue. omega (arith, remove-most queue.items (position_or_len (has_id id) queue.items))) queues, purged-messages clock s, within.messages);
+      pages = omega (arith, sum-first-most queue_pages (holds_id id) (without_entry id) 0 (λ queue. omega (arith, remove-less pages_of_entry queue.items (position_or_len (has_id id) queue.items))) queues, purged-held clock s, within.pages);
     }
 
 -- neither of two is lacking
@@ -108,8 +108,8 @@ none-lacking true b x y h = cc
 none-lacking false true x y h = cc
 none-lacking false false x y h = (refl, refl)
 
-pub within-added : (name : List ℕ) (item : Item) (clock need : ℕ) (s : Space) → IsWithinLimits s → item_pages item ≡ need → first_lacking (message_rooms s (purged clock s) need) ≡ None
-    → IsWithinLimits (record s { queues = with_item_in name item (map (purged_queue clock) s.queues) })
+pub within-added : (name : List ℕ) (item : Entry) (clock need : ℕ) (s : Space) → IsWithinLimits s → pages_of_entry item ≡ need → first_lacking (message_rooms s (purged clock s) need) ≡ None
+    → IsWithinLimits (record s { queues = with_entry_in name item (map (purged_queue clock) s.queues) })
 within-added name item clock need s within pages enough =
     let queues = map (purged_queue clock) s.queues in
     let parts = none-lacking (nat_lt s.limits.messages (1 + messages_held (purged clock s))) (nat_lt s.limits.pages (need + pages_held s))
@@ -117,6 +117,6 @@ within-added name item clock need s within pages enough =
     let messages_fit : 1 + messages_held (purged clock s) ≤ s.limits.messages = ltb-false s.limits.messages (1 + messages_held (purged clock s)) parts.0 in
     let pages_fit : need + pages_held s ≤ s.limits.pages = ltb-false s.limits.pages (need + pages_held s) parts.1 in
     record {
-      messages = omega (arith, sum-first-most length_of (is_named name) (with_item item) 1 (with_item-length item) queues);
-      pages = omega (arith, sum-first-most queue_pages (is_named name) (with_item item) (item_pages item) (with_item-pages item) queues, purged-held clock s);
+      messages = omega (arith, sum-first-most length_of (is_named name) (with_entry item) 1 (with_entry-length item) queues);
+      pages = omega (arith, sum-first-most queue_pages (is_named name) (with_entry item) (pages_of_entry item) (with_entry-pages item) queues, purged-held clock s);
     }

@@ -17,7 +17,7 @@ use Rattle.tq_model.specs.declared.calls.DequeueWords.{DequeueWords}
 use Rattle.tq_model.specs.SpaceForm.{longest_body, added_length, gone_length, made_length}
 use Rattle.tq_model.specs.EnqueueStep.{enqueue_step, enqueue_refusal}
 use Rattle.tq_model.specs.DequeueStep.{dequeue_step, dequeue_refusal}
-use Rattle.tq_model.specs.Site.{Site, Volume, Placed, durable, space_named, volume_of, with_space}
+use Rattle.tq_model.specs.Site.{Site, Volume, SpaceOnDevice, durable, space_named, volume_of, with_space}
 use Rattle.tq_model.specs.Step.{Outcome, boot, can_boot, booted, ready, creation_refusal, unless_refused, new_volume, site_asked, with_new_device, refused, unless, logged_with, with_queue, queue_refusal, call_refusal, called, with_next_number, enqueue_call, dequeue_call, next_arrival, space_made, space_refusal, create_queue_in, enqueue_in, dequeue_in, step}
 
 -- the number after an outcome is at most the next
@@ -46,20 +46,20 @@ space-next : (c : SpaceCreation) (s : Site) (v : Option Volume) → takes_one s 
 space-next c s None = omega arith
 space-next c s (Some v) = omega arith
 
-queue-next : (c : QueueCreation) (s : Site) (p : Option Placed) → takes_one s (create_queue_in c s p)
+queue-next : (c : QueueCreation) (s : Site) (p : Option SpaceOnDevice) → takes_one s (create_queue_in c s p)
 queue-next c s None = omega arith
 queue-next c s (Some p) =
     let granted : Outcome = record { site = with_space c.space (logged_with (made_length c.queue) (with_queue c.queue p.space)) s; answer = Done } in
     unless-next (queue_refusal c p) s granted (omega arith)
 
-enqueue-next : (w : EnqueueWords) (s : Site) (p : Option Placed) → takes_one s (enqueue_in w s p)
+enqueue-next : (w : EnqueueWords) (s : Site) (p : Option SpaceOnDevice) → takes_one s (enqueue_in w s p)
 enqueue-next w s None = omega arith
 enqueue-next w s (Some p) =
     let call = enqueue_call w s.clock in
     unless-next (call_refusal (enqueue_refusal p.space call s.clock) p (added_length w.body)) s
     (with_next_number (called w.space (enqueue_step p.space call s.clock (next_arrival s)) (added_length w.body) p s)) (omega arith)
 
-dequeue-next : (w : DequeueWords) (s : Site) (p : Option Placed) → takes_one s (dequeue_in w s p)
+dequeue-next : (w : DequeueWords) (s : Site) (p : Option SpaceOnDevice) → takes_one s (dequeue_in w s p)
 dequeue-next w s None = omega arith
 dequeue-next w s (Some p) =
     let call = dequeue_call w in

@@ -5,38 +5,38 @@ use Rattle.std.specs.List.{position, position_or_len, insert, remove}
 use Rattle.std.proofs.lemmas.List.{take_all, drop_all, append-nil, length-map}
 use Rattle.tq_types.specs.OrderValue.{OrderValue}
 use Rattle.tq_types.specs.declared.identifiers.MsgId.{MsgId}
-use Rattle.tq_types.specs.declared.messages.Entry.{Entry}
+use Rattle.tq_types.specs.declared.messages.Entry.{Entry as HeldEntry}
 use Rattle.tq_model.specs.Entries.{free_entry}
-use Rattle.tq_model.specs.Space.{Item, has_id, dropped, placed, stands_before, is_expired, outlives, freed}
-use Rattle.tq_model.specs.Moves.{item_of}
+use Rattle.tq_model.specs.Space.{Entry, has_id, dropped, placed, stands_before, is_expired, outlives, freed}
+use Rattle.tq_model.specs.Moves.{entry_view}
 use Rattle.tq_model.proofs.Maps.{filter-map, map-map}
 use Rattle.tq_model.proofs.Places.{position_or_len-map, position-found, position-none, map-insert, map-remove}
 
 -- the expired entries are dropped
-pub purged_items : (clock : ℕ) (es : List Entry)
-    → map item_of (filter (λ e. not (is_expired clock (item_of e))) es) ≡ filter (λ item. not (is_expired clock item)) (map item_of es)
-purged_items clock es = sym (filter-map item_of (λ item. not (is_expired clock item)) es)
+pub purged_items : (clock : ℕ) (es : List HeldEntry)
+    → map entry_view (filter (λ e. not (is_expired clock (entry_view e))) es) ≡ filter (λ item. not (is_expired clock item)) (map entry_view es)
+purged_items clock es = sym (filter-map entry_view (λ item. not (is_expired clock item)) es)
 
 -- what a crash leaves
-pub crashed_items : (es : List Entry) → map item_of (map free_entry (filter (λ e. outlives (item_of e)) es)) ≡ map freed (filter outlives (map item_of es))
+pub crashed_items : (es : List HeldEntry) → map entry_view (map free_entry (filter (λ e. outlives (entry_view e)) es)) ≡ map freed (filter outlives (map entry_view es))
 crashed_items es =
-    let kept = filter (λ e. outlives (item_of e)) es in
-    map-map free_entry item_of kept ∙ sym (map-map item_of freed kept) ∙ ap (map freed) (sym (filter-map item_of outlives es))
+    let kept = filter (λ e. outlives (entry_view e)) es in
+    map-map free_entry entry_view kept ∙ sym (map-map entry_view freed kept) ∙ ap (map freed) (sym (filter-map entry_view outlives es))
 
 pub remove-past : {X : Type 0} (xs : List X) (at : ℕ) → length xs ≤ at → remove xs at ≡ xs
 remove-past xs at past = (λ i. take_all at xs past i ++ drop_all (suc at) xs (omega arith) i) ∙ append-nil xs
 
 -- the entry of an identifier goes
-pub dropped_found : (id : MsgId) (es : List Entry) (at : ℕ) → position (λ e. has_id id (item_of e)) es ≡ Some at
-    → map item_of (remove es at) ≡ dropped id (map item_of es)
+pub dropped_found : (id : MsgId) (es : List HeldEntry) (at : ℕ) → position (λ e. has_id id (entry_view e)) es ≡ Some at
+    → map entry_view (remove es at) ≡ dropped id (map entry_view es)
 dropped_found id es at found =
-    let spot : position_or_len (has_id id) (map item_of es) ≡ at = position_or_len-map item_of (has_id id) es ∙ (position-found (λ (e : Entry). has_id id (item_of e)) es at found).0 in
-    map-remove item_of es at ∙ ap (remove (map item_of es)) (sym spot)
+    let spot : position_or_len (has_id id) (map entry_view es) ≡ at = position_or_len-map entry_view (has_id id) es ∙ (position-found (λ (e : HeldEntry). has_id id (entry_view e)) es at found).0 in
+    map-remove entry_view es at ∙ ap (remove (map entry_view es)) (sym spot)
 
-pub dropped_none : (id : MsgId) (es : List Entry) → position (λ e. has_id id (item_of e)) es ≡ None → map item_of es ≡ dropped id (map item_of es)
+pub dropped_none : (id : MsgId) (es : List HeldEntry) → position (λ e. has_id id (entry_view e)) es ≡ None → map entry_view es ≡ dropped id (map entry_view es)
 dropped_none id es none =
-    let past = position-none (λ (e : Entry). has_id id (item_of e)) es none in
-    sym (remove-past (map item_of es) (position_or_len (has_id id) (map item_of es)) (omega (arith, position_or_len-map item_of (has_id id) es, length-map es item_of)))
+    let past = position-none (λ (e : HeldEntry). has_id id (entry_view e)) es none in
+    sym (remove-past (map entry_view es) (position_or_len (has_id id) (map entry_view es)) (omega (arith, position_or_len-map entry_view (has_id id) es, length-map es entry_view)))
 
 -- The place among all is the place among those that are kept.
 insert-further : {X : Type 0} (x y : X) (xs : List X) (n : ℕ) → insert (y ∷ xs) (1 + n) x ≡ y ∷ insert xs n x
@@ -61,13 +61,13 @@ filter-placed {X} keep before x kept (y ∷ ys) =
     ] refl
 
 -- an entry that is not expired comes in
-pub placed_items : (clock : ℕ) (order : OrderValue) (entry : Entry) → is_expired clock (item_of entry) ≡ false → (es : List Entry) (place : ℕ)
-    → place ≡ position_or_len (λ other. not (is_expired clock (item_of other)) && stands_before order (item_of entry) (item_of other)) es
-    → filter (λ item. not (is_expired clock item)) (map item_of (insert es place entry)) ≡ placed order (item_of entry) (filter (λ item. not (is_expired clock item)) (map item_of es))
+pub placed_items : (clock : ℕ) (order : OrderValue) (entry : HeldEntry) → is_expired clock (entry_view entry) ≡ false → (es : List HeldEntry) (place : ℕ)
+    → place ≡ position_or_len (λ other. not (is_expired clock (entry_view other)) && stands_before order (entry_view entry) (entry_view other)) es
+    → filter (λ item. not (is_expired clock item)) (map entry_view (insert es place entry)) ≡ placed order (entry_view entry) (filter (λ item. not (is_expired clock item)) (map entry_view es))
 placed_items clock order entry lasts es place is_place =
-    let keep : Item → Bool = λ item. not (is_expired clock item) in
-    let before : Item → Bool = stands_before order (item_of entry) in
-    let spot : place ≡ position_or_len (λ item. keep item && before item) (map item_of es) = is_place ∙ sym (position_or_len-map item_of (λ item. keep item && before item) es) in
-    ap (filter keep) (map-insert item_of es place entry)
-    ∙ ap (λ n. filter keep (insert (map item_of es) n (item_of entry))) spot
-    ∙ filter-placed keep before (item_of entry) (ap not lasts) (map item_of es)
+    let keep : Entry → Bool = λ item. not (is_expired clock item) in
+    let before : Entry → Bool = stands_before order (entry_view entry) in
+    let spot : place ≡ position_or_len (λ item. keep item && before item) (map entry_view es) = is_place ∙ sym (position_or_len-map entry_view (λ item. keep item && before item) es) in
+    ap (filter keep) (map-insert entry_view es place entry)
+    ∙ ap (λ n. filter keep (insert (map entry_view es) n (entry_view entry))) spot
+    ∙ filter-placed keep before (entry_view entry) (ap not lasts) (map entry_view es)

@@ -12,10 +12,10 @@ use Rattle.tq_model.specs.declared.space.QueueDef.{QueueDef}
 use Rattle.tq_model.specs.declared.space.SpaceMove.TheVariants.{PutQueue}
 use Rattle.tq_model.specs.declared.record.SpaceRecord.{SpaceRecord}
 use Rattle.tq_model.specs.declared.record.SpaceRecord.TheVariants.{Added, Gone, QueueMade}
-use Rattle.tq_model.specs.Space.{is_persistent, is_adding, Item, Queue, change_first, same_id, has_id, is_named, stands_before, with_item, without_item, comes_after, outlives, freed, crashed_queue, crashed}
-use Rattle.tq_model.specs.Moves.{IndexedQueue, IndexedSpace, the_queue, space_of, item_of, queue_of, has_index, on_queue, indexed_holds, comes_before, queue_put, moved}
-use Rattle.tq_model.specs.SpaceForm.{id_in, plain_entry, plain_queue, move_of, holds_arrival, holds_name}
-use Rattle.tq_model.specs.Plain.{IsPlainItem, IsPlainQueue, IsPlainSpace, AllIds, HasEpochs, IsBefore, IsNewer}
+use Rattle.tq_model.specs.Space.{is_persistent, is_adding, Entry, Queue, change_first, same_id, has_id, is_named, stands_before, with_entry, without_entry, comes_after, outlives, freed, crashed_queue, crashed}
+use Rattle.tq_model.specs.Moves.{IndexedQueue, IndexedSpace, the_queue, space_of, entry_view, queue_of, has_index, on_queue, indexed_holds, comes_before, queue_put, moved}
+use Rattle.tq_model.specs.SpaceForm.{id_in, plain_entry, default_queue, move_of, holds_arrival, holds_name}
+use Rattle.tq_model.specs.Plain.{SurvivesCrash, HasOnlySurvivors, KeepsAllAtCrash, AllIds, HasEpochs, IsBefore, IsNewer}
 use Rattle.tq_model.specs.Step.{has_queue, with_queue}
 use Rattle.tq_model.proofs.Places.{map-insert, position_or_len-map}
 use Rattle.tq_model.proofs.Maps.{list_any-map}
@@ -73,39 +73,39 @@ All-put P index d queues keeps new all =
 -- ---- plain spaces
 
 -- Each record leaves a plain space plain.
-pub moved_plain : (t : IndexedSpace) (r : SpaceRecord) → IsPlainSpace t → IsPlainSpace (moved (move_of t r) t)
+pub moved_plain : (t : IndexedSpace) (r : SpaceRecord) → KeepsAllAtCrash t → KeepsAllAtCrash (moved (move_of t r) t)
 moved_plain t (Added queue arrival body) plain =
-    let item = item_of (plain_entry queue arrival (id_in t arrival) body) in
-    All-change_first IsPlainQueue (has_index queue) (on_queue (with_item item))
+    let item = entry_view (plain_entry queue arrival (id_in t arrival) body) in
+    All-change_first HasOnlySurvivors (has_index queue) (on_queue (with_entry item))
     (λ q is. record {
       qos = is.qos;
-      items = All-insert IsPlainItem q.queue.items (position_or_len (stands_before q.queue.order item) q.queue.items) item (record { free = refl; persistent = refl }) is.items;
+      items = All-insert SurvivesCrash q.queue.items (position_or_len (stands_before q.queue.order item) q.queue.items) item (record { free = refl; persistent = refl }) is.items;
     })
     t.queues plain
 moved_plain t (Gone arrival) plain =
     let id = id_in t arrival in
-    All-change_first IsPlainQueue (indexed_holds id) (on_queue (without_item id))
-    (λ q is. record { qos = is.qos; items = All-remove IsPlainItem q.queue.items (position_or_len (has_id id) q.queue.items) is.items })
+    All-change_first HasOnlySurvivors (indexed_holds id) (on_queue (without_entry id))
+    (λ q is. record { qos = is.qos; items = All-remove SurvivesCrash q.queue.items (position_or_len (has_id id) q.queue.items) is.items })
     t.queues plain
 moved_plain t (QueueMade index name) plain =
-    All-put IsPlainQueue index (plain_queue name) t.queues (λ q is. record { qos = refl; items = is.items }) (record { qos = refl; items = All-nil IsPlainItem }) plain
+    All-put HasOnlySurvivors index (default_queue name) t.queues (λ q is. record { qos = refl; items = is.items }) (record { qos = refl; items = All-nil SurvivesCrash }) plain
 
 -- a plain entry outlives a crash, and was free before it
-outlives_plain : (item : Item) → IsPlainItem item → outlives item ≡ true
+outlives_plain : (item : Entry) → SurvivesCrash item → outlives item ≡ true
 outlives_plain item is = λ i. is_persistent (is.persistent i) && not (is_adding (is.free i))
 
-freed_plain : (item : Item) → IsPlainItem item → freed item ≡ item
-freed_plain item is = λ i. record item { holding = sym is.free i }
+freed_plain : (item : Entry) → SurvivesCrash item → freed item ≡ item
+freed_plain item is = λ i. record item { mark = sym is.free i }
 
-crashed_items : (items : List Item) → All IsPlainItem items → map freed (filter outlives items) ≡ items
+crashed_items : (items : List Entry) → All SurvivesCrash items → map freed (filter outlives items) ≡ items
 crashed_items items plain =
-    ap (map freed) (filter_all outlives items (All-weaker IsPlainItem (λ item. outlives item ≡ true) outlives_plain items plain))
-    ∙ map_fixed freed items (All-weaker IsPlainItem (λ item. freed item ≡ item) freed_plain items plain)
+    ap (map freed) (filter_all outlives items (All-weaker SurvivesCrash (λ item. outlives item ≡ true) outlives_plain items plain))
+    ∙ map_fixed freed items (All-weaker SurvivesCrash (λ item. freed item ≡ item) freed_plain items plain)
 
 -- A crash leaves a plain space as it was.
-pub crashed_plain : (t : IndexedSpace) → IsPlainSpace t → crashed (space_of t) ≡ space_of t
+pub crashed_plain : (t : IndexedSpace) → KeepsAllAtCrash t → crashed (space_of t) ≡ space_of t
 crashed_plain t plain =
-    let same = All-weaker IsPlainQueue (λ q. crashed_queue (the_queue q) ≡ the_queue q)
+    let same = All-weaker HasOnlySurvivors (λ q. crashed_queue (the_queue q) ≡ the_queue q)
     (λ q is. ap (λ items. record q.queue { items = items }) (crashed_items q.queue.items is.items)) t.queues plain in
     ap (λ queues. record (space_of t) { queues = queues }) (map_fixed crashed_queue (map the_queue t.queues) (All-map (λ queue. crashed_queue queue ≡ queue) the_queue t.queues same))
 
@@ -115,26 +115,26 @@ crashed_plain t plain =
 pub ids_added : (P : MsgId → Type 0) (t : IndexedSpace) (queue : ℕ) (arrival : Arrival) (body : List ℕ) → P (id_in t arrival)
     → AllIds P t → AllIds P (moved (move_of t (Added queue arrival body)) t)
 ids_added P t queue arrival body here all =
-    let item = item_of (plain_entry queue arrival (id_in t arrival) body) in
-    All-change_first (λ (q : IndexedQueue). All (λ (x : Item). P x.letter.id) q.queue.items) (has_index queue) (on_queue (with_item item))
-    (λ q is. All-insert (λ (x : Item). P x.letter.id) q.queue.items (position_or_len (stands_before q.queue.order item) q.queue.items) item here is)
+    let item = entry_view (plain_entry queue arrival (id_in t arrival) body) in
+    All-change_first (λ (q : IndexedQueue). All (λ (x : Entry). P x.message.id) q.queue.items) (has_index queue) (on_queue (with_entry item))
+    (λ q is. All-insert (λ (x : Entry). P x.message.id) q.queue.items (position_or_len (stands_before q.queue.order item) q.queue.items) item here is)
     t.queues all
 
 pub ids_gone : (P : MsgId → Type 0) (t : IndexedSpace) (arrival : Arrival) → AllIds P t → AllIds P (moved (move_of t (Gone arrival)) t)
 ids_gone P t arrival all =
     let id = id_in t arrival in
-    All-change_first (λ (q : IndexedQueue). All (λ (x : Item). P x.letter.id) q.queue.items) (indexed_holds id) (on_queue (without_item id))
-    (λ q is. All-remove (λ (x : Item). P x.letter.id) q.queue.items (position_or_len (has_id id) q.queue.items) is)
+    All-change_first (λ (q : IndexedQueue). All (λ (x : Entry). P x.message.id) q.queue.items) (indexed_holds id) (on_queue (without_entry id))
+    (λ q is. All-remove (λ (x : Entry). P x.message.id) q.queue.items (position_or_len (has_id id) q.queue.items) is)
     t.queues all
 
 pub ids_made : (P : MsgId → Type 0) (t : IndexedSpace) (index : ℕ) (name : List ℕ) → AllIds P t → AllIds P (moved (move_of t (QueueMade index name)) t)
 ids_made P t index name all =
-    All-put (λ (q : IndexedQueue). All (λ (x : Item). P x.letter.id) q.queue.items) index (plain_queue name) t.queues (λ q is. is) (All-nil (λ (x : Item). P x.letter.id)) all
+    All-put (λ (q : IndexedQueue). All (λ (x : Entry). P x.message.id) q.queue.items) index (default_queue name) t.queues (λ q is. is) (All-nil (λ (x : Entry). P x.message.id)) all
 
 pub ids_weaker : (P Q : MsgId → Type 0) → ((id : MsgId) → P id → Q id) → (t : IndexedSpace) → AllIds P t → AllIds Q t
 ids_weaker P Q follows t all =
-    All-weaker (λ (q : IndexedQueue). All (λ (x : Item). P x.letter.id) q.queue.items) (λ (q : IndexedQueue). All (λ (x : Item). Q x.letter.id) q.queue.items)
-    (λ q is. All-weaker (λ (x : Item). P x.letter.id) (λ (x : Item). Q x.letter.id) (λ x here. follows x.letter.id here) q.queue.items is)
+    All-weaker (λ (q : IndexedQueue). All (λ (x : Entry). P x.message.id) q.queue.items) (λ (q : IndexedQueue). All (λ (x : Entry). Q x.message.id) q.queue.items)
+    (λ q is. All-weaker (λ (x : Entry). P x.message.id) (λ (x : Entry). Q x.message.id) (λ x here. follows x.message.id here) q.queue.items is)
     t.queues all
 
 -- What arrives in a later epoch is newer than all of the space.
@@ -154,9 +154,9 @@ pub newer_is_new : (epoch number : ℕ) (t : IndexedSpace) → IsNewer epoch num
 newer_is_new epoch number t newer =
     let id = id_in t (record { epoch = epoch; number = number }) in
     list_any_none (indexed_holds id) t.queues
-    (All-weaker (λ (q : IndexedQueue). All (λ (x : Item). IsBefore epoch number x.letter.id) q.queue.items) (λ (q : IndexedQueue). indexed_holds id q ≡ false)
+    (All-weaker (λ (q : IndexedQueue). All (λ (x : Entry). IsBefore epoch number x.message.id) q.queue.items) (λ (q : IndexedQueue). indexed_holds id q ≡ false)
     (λ q is. list_any_none (has_id id) q.queue.items
-    (All-weaker (λ (x : Item). IsBefore epoch number x.letter.id) (λ (x : Item). has_id id x ≡ false) (λ x before. before_differs epoch number t.site t.number x.letter.id before) q.queue.items is))
+    (All-weaker (λ (x : Entry). IsBefore epoch number x.message.id) (λ (x : Entry). has_id id x ≡ false) (λ x before. before_differs epoch number t.site t.number x.message.id before) q.queue.items is))
     t.queues newer)
 
 -- Once it has come, the next number is newer. (After `Gone` and `QueueMade` this one still is: `ids_gone`, `ids_made`.)
@@ -212,20 +212,20 @@ put_distinct index d queues distinct i =
 -- No index comes to stand twice.
 pub moved_distinct : (t : IndexedSpace) (r : SpaceRecord) → HasDistinctIndices t → HasDistinctIndices (moved (move_of t r) t)
 moved_distinct t (Added queue arrival body) distinct index =
-    kept_distinct index (has_index queue) (with_item (item_of (plain_entry queue arrival (id_in t arrival) body))) t.queues (distinct index)
-moved_distinct t (Gone arrival) distinct index = kept_distinct index (indexed_holds (id_in t arrival)) (without_item (id_in t arrival)) t.queues (distinct index)
-moved_distinct t (QueueMade new name) distinct index = put_distinct new (plain_queue name) t.queues distinct index
+    kept_distinct index (has_index queue) (with_entry (entry_view (plain_entry queue arrival (id_in t arrival) body))) t.queues (distinct index)
+moved_distinct t (Gone arrival) distinct index = kept_distinct index (indexed_holds (id_in t arrival)) (without_entry (id_in t arrival)) t.queues (distinct index)
+moved_distinct t (QueueMade new name) distinct index = put_distinct new (default_queue name) t.queues distinct index
 
 -- A queue that is put under a new index stands in its place by name.
 pub queue_space : (index : ℕ) (name : List ℕ) (t : IndexedSpace) → list_any (has_index index) t.queues ≡ false
-    → space_of (moved (PutQueue index (plain_queue name)) t) ≡ with_queue name (space_of t)
+    → space_of (moved (PutQueue index (default_queue name)) t) ≡ with_queue name (space_of t)
 queue_space index name t new =
-    let made : IndexedQueue = record { index = index; queue = queue_of (plain_queue name) [] } in
+    let made : IndexedQueue = record { index = index; queue = queue_of (default_queue name) [] } in
     let at = position_or_len (comes_before name) t.queues in
-    let changed = change_first (has_index index) (on_queue (λ queue. queue_of (plain_queue name) queue.items)) t.queues in
+    let changed = change_first (has_index index) (on_queue (λ queue. queue_of (default_queue name) queue.items)) t.queues in
     ap (λ queues. record (space_of t) { queues = map the_queue queues }) (cond-false (list_any (has_index index) t.queues) changed (insert t.queues at made) new)
     ∙ ap (λ queues. record (space_of t) { queues = queues }) (map-insert the_queue t.queues at made)
-    ∙ ap (λ n. record (space_of t) { queues = insert (map the_queue t.queues) n (queue_of (plain_queue name) []) }) (sym (position_or_len-map the_queue (comes_after name) t.queues))
+    ∙ ap (λ n. record (space_of t) { queues = insert (map the_queue t.queues) n (queue_of (default_queue name) []) }) (sym (position_or_len-map the_queue (comes_after name) t.queues))
 
 pub has_queue_is : (name : List ℕ) (t : IndexedSpace) → has_queue name (space_of t) ≡ list_any (holds_name name) t.queues
 has_queue_is name t = list_any-map the_queue (is_named name) t.queues

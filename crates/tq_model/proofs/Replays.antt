@@ -10,11 +10,11 @@ use Rattle.tq_types.specs.declared.identifiers.MsgId.{MsgId}
 use Rattle.tq_model.specs.declared.space.Shape.{Shape}
 use Rattle.tq_model.specs.declared.record.SpaceRecord.{SpaceRecord}
 use Rattle.tq_model.specs.declared.record.SpaceRecord.TheVariants.{Added, Gone, QueueMade}
-use Rattle.tq_model.specs.Space.{Item}
+use Rattle.tq_model.specs.Space.{Entry}
 use Rattle.tq_model.specs.Moves.{IndexedQueue, IndexedSpace, space_of, has_index, moved}
 use Rattle.tq_model.specs.Room.{pages_for, messages_held, pages_held}
 use Rattle.tq_model.specs.SpaceForm.{holds_arrival, can_add, can_follow, move_of, followed, followed_by, record_in, replayed, empty_space}
-use Rattle.tq_model.specs.Plain.{IsPlainQueue, IsPlainSpace, AllIds, HasEpochs}
+use Rattle.tq_model.specs.Plain.{HasOnlySurvivors, KeepsAllAtCrash, AllIds, HasEpochs}
 use Rattle.tq_model.proofs.RecordMoves.{HasDistinctIndices, moved_plain, moved_distinct, ids_added, ids_gone, ids_made}
 
 -- ---- one record more
@@ -139,7 +139,7 @@ replayed_later epoch epoch' (p ∷ ps) s t later is =
     ∙ replayed_later epoch epoch' ps u t later rest))
 
 pub empty_ids : (P : MsgId → Type 0) (shape : Shape) (site number : ℕ) → AllIds P (empty_space shape site number)
-empty_ids P shape site number = All-nil (λ (q : IndexedQueue). All (λ (item : Item). P item.letter.id) q.queue.items)
+empty_ids P shape site number = All-nil (λ (q : IndexedQueue). All (λ (item : Entry). P item.message.id) q.queue.items)
 
 moved_epochs : (epoch : ℕ) (s : IndexedSpace) (r : SpaceRecord) → can_follow epoch s r ≡ true → HasEpochs epoch s → HasEpochs epoch (moved (move_of s r) s)
 moved_epochs epoch s (Added queue arrival body) can epochs = ids_added (λ id. id.epoch ≤ epoch) s queue arrival body (can_add_parts epoch s queue arrival body can).upto epochs
@@ -151,11 +151,11 @@ replayed_epochs epoch ps s t epochs is = replayed_keeps (HasEpochs epoch) epoch 
 
 -- ---- plain spaces and their indices
 
-pub empty_plain : (shape : Shape) (site number : ℕ) → IsPlainSpace (empty_space shape site number)
-empty_plain shape site number = All-nil IsPlainQueue
+pub empty_plain : (shape : Shape) (site number : ℕ) → KeepsAllAtCrash (empty_space shape site number)
+empty_plain shape site number = All-nil HasOnlySurvivors
 
-pub replayed_plain : (epoch : ℕ) (ps : List (List ℕ)) (s t : IndexedSpace) → IsPlainSpace s → replayed epoch ps s ≡ Some t → IsPlainSpace t
-replayed_plain epoch ps s t plain is = replayed_keeps IsPlainSpace epoch (λ u r can. moved_plain u r) ps s t is plain
+pub replayed_plain : (epoch : ℕ) (ps : List (List ℕ)) (s t : IndexedSpace) → KeepsAllAtCrash s → replayed epoch ps s ≡ Some t → KeepsAllAtCrash t
+replayed_plain epoch ps s t plain is = replayed_keeps KeepsAllAtCrash epoch (λ u r can. moved_plain u r) ps s t is plain
 
 pub empty_distinct : (shape : Shape) (site number : ℕ) → HasDistinctIndices (empty_space shape site number)
 empty_distinct shape site number index = omega arith

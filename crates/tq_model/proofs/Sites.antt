@@ -10,7 +10,7 @@ use Rattle.std.proofs.lemmas.List.{at_drop_more, get_or_past, length-map, length
 use Rattle.std.proofs.lemmas.List.Concat.{flat_map-append}
 use Rattle.std.proofs.lemmas.List.Folds.{find-append}
 use Rattle.std.proofs.lemmas.List.Sums.{sum_by-cons, sum_by-append, sum_by-set, get_or-le-sum_by}
-use Rattle.tq_model.specs.Site.{Placed, Volume, present, has_name, spaces_on, on_spaces, changed_if, table_with}
+use Rattle.tq_model.specs.Site.{SpaceOnDevice, Volume, present, has_name, spaces_on, on_spaces, changed_if, table_with}
 use Rattle.tq_model.specs.Tables.{AreSound, device_spaces, entry_of, entry_changed}
 use Rattle.tq_model.proofs.Limits.{sum-map-most}
 use Rattle.tq_model.proofs.Tables.{present-more}
@@ -21,7 +21,7 @@ use Rattle.tq_model.proofs.Tables.{present-more}
 abbrev on_device : List ℕ → Option Volume → ℕ
 on_device name d = count_by (has_name name) (device_spaces d)
 
-abbrev in_entry : List ℕ → Option Placed → ℕ
+abbrev in_entry : List ℕ → Option SpaceOnDevice → ℕ
 in_entry name o = count_by (has_name name) (option_to_list o)
 
 count-devices : (name : List ℕ) (ds : List (Option Volume)) → count_by (has_name name) (flat_map spaces_on (present ds)) ≡ sum_by (on_device name) ds
@@ -33,7 +33,7 @@ count-devices name (Some v ∷ ds) =
     let rest = count-devices name ds in
     omega (arith, sum_by-append (λ p. cond (has_name name p) 1 0) (spaces_on v) (flat_map spaces_on (present ds)), sum_by-cons (on_device name) (Some v) ds)
 
-count-entries : (name : List ℕ) (xs : List (Option Placed)) → count_by (has_name name) (present xs) ≡ sum_by (in_entry name) xs
+count-entries : (name : List ℕ) (xs : List (Option SpaceOnDevice)) → count_by (has_name name) (present xs) ≡ sum_by (in_entry name) xs
 count-entries name [] = refl
 count-entries name (None ∷ xs) =
     let rest = count-entries name xs in
@@ -81,27 +81,27 @@ changed-one f w fixed (x ∷ xs) (suc at) d within some most =
 
 -- A space is changed
 
-unnamed : (name : List ℕ) (p : Placed) → in_entry name (Some p) ≡ 0 → has_name name p ≡ false
+unnamed : (name : List ℕ) (p : SpaceOnDevice) → in_entry name (Some p) ≡ 0 → has_name name p ≡ false
 unnamed name p = elim (has_name name p) as (λ b. 0 + cond b 1 0 ≡ 0 → b ≡ false) [ true ↦ λ h. absurd (omega arith) | false ↦ λ h. refl ]
 
-entry-kept : (name : List ℕ) (change : Placed → Placed) (o : Option Placed) → in_entry name o ≡ 0 → option_map (changed_if name change) o ≡ o
+entry-kept : (name : List ℕ) (change : SpaceOnDevice → SpaceOnDevice) (o : Option SpaceOnDevice) → in_entry name o ≡ 0 → option_map (changed_if name change) o ≡ o
 entry-kept name change None h = refl
 entry-kept name change (Some p) h = ap (λ b. Some (cond b (change p) p)) (unnamed name p h)
 
-device-kept : (name : List ℕ) (change : Placed → Placed) (d : Option Volume) → on_device name d ≡ 0 → option_map (on_spaces (changed_if name change)) d ≡ d
+device-kept : (name : List ℕ) (change : SpaceOnDevice → SpaceOnDevice) (d : Option Volume) → on_device name d ≡ 0 → option_map (on_spaces (changed_if name change)) d ≡ d
 device-kept name change None h = refl
 device-kept name change (Some v) h =
     let same = changed-none (option_map (changed_if name change)) (in_entry name) (entry-kept name change) v.entries (sym (count-entries name v.entries) ∙ h) in
-    ap (λ (l : List (Option Placed)). let w : Volume = record v { entries = l } in Some w) same
+    ap (λ (l : List (Option SpaceOnDevice)). let w : Volume = record v { entries = l } in Some w) same
 
 within-some : {X : Type 0} (xs : List (Option X)) (at : ℕ) (x : X) → get_or xs at None ≡ Some x → at < length xs
 within-some xs at x is = ⊎_elim (λ within. within) (λ past. let clash = sym (get_or_past xs at None past) ∙ is in cc) (cases_lt at (length xs))
 
-counted-one : (name : List ℕ) (o : Option Placed) (p : Placed) → o ≡ Some p → has_name name p ≡ true → 1 ≤ in_entry name o
-counted-one name o p is named = subst (λ (q : Option Placed). 1 ≤ in_entry name q) (sym is) (omega (arith, ap (λ b. 0 + cond b 1 0) named))
+counted-one : (name : List ℕ) (o : Option SpaceOnDevice) (p : SpaceOnDevice) → o ≡ Some p → has_name name p ≡ true → 1 ≤ in_entry name o
+counted-one name o p is named = subst (λ (q : Option SpaceOnDevice). 1 ≤ in_entry name q) (sym is) (omega (arith, ap (λ b. 0 + cond b 1 0) named))
 
 -- the space of that name stands in this entry of the device
-volume-changed : (name : List ℕ) (change : Placed → Placed) (v : Volume) (entry : ℕ) (p : Placed) → get_or v.entries entry None ≡ Some p → has_name name p ≡ true
+volume-changed : (name : List ℕ) (change : SpaceOnDevice → SpaceOnDevice) (v : Volume) (entry : ℕ) (p : SpaceOnDevice) → get_or v.entries entry None ≡ Some p → has_name name p ≡ true
     → on_device name (Some v) ≤ 1 → on_spaces (changed_if name change) v ≡ entry_changed entry change v
 volume-changed name change v entry p is named most =
     let within = within-some v.entries entry p is in
@@ -110,14 +110,14 @@ volume-changed name change v entry p is named most =
     let same = changed-one (option_map (changed_if name change)) (in_entry name) (entry-kept name change) v.entries entry None within one (omega arith) in
     let there : option_map (changed_if name change) (get_or v.entries entry None) ≡ option_map change (get_or v.entries entry None) =
     ap (option_map (changed_if name change)) is ∙ ap (λ b. Some (cond b (change p) p)) named ∙ sym (ap (option_map change) is) in
-    ap (λ (l : List (Option Placed)). let w : Volume = record v { entries = l } in w) (same ∙ ap (set v.entries entry) there)
+    ap (λ (l : List (Option SpaceOnDevice)). let w : Volume = record v { entries = l } in w) (same ∙ ap (set v.entries entry) there)
 
-device-changed : (name : List ℕ) (change : Placed → Placed) (d : Option Volume) (entry : ℕ) (p : Placed) → entry_of d entry ≡ Some p → has_name name p ≡ true
+device-changed : (name : List ℕ) (change : SpaceOnDevice → SpaceOnDevice) (d : Option Volume) (entry : ℕ) (p : SpaceOnDevice) → entry_of d entry ≡ Some p → has_name name p ≡ true
     → on_device name d ≤ 1 → option_map (on_spaces (changed_if name change)) d ≡ option_map (entry_changed entry change) d
 device-changed name change None entry p is named most = refl
 device-changed name change (Some v) entry p is named most = ap Some (volume-changed name change v entry p is named most)
 
-counted-device : (name : List ℕ) (d : Option Volume) (entry : ℕ) (p : Placed) → entry_of d entry ≡ Some p → has_name name p ≡ true → 1 ≤ on_device name d
+counted-device : (name : List ℕ) (d : Option Volume) (entry : ℕ) (p : SpaceOnDevice) → entry_of d entry ≡ Some p → has_name name p ≡ true → 1 ≤ on_device name d
 counted-device name None entry p is named = cc
 counted-device name (Some v) entry p is named =
     let within = within-some v.entries entry p is in
@@ -125,11 +125,11 @@ counted-device name (Some v) entry p is named =
     let sum = get_or-le-sum_by (in_entry name) v.entries entry None within in
     omega (arith, count-entries name v.entries)
 
-pub within-devices : (ds : List (Option Volume)) (dev entry : ℕ) (p : Placed) → entry_of (get_or ds dev None) entry ≡ Some p → dev < length ds
+pub within-devices : (ds : List (Option Volume)) (dev entry : ℕ) (p : SpaceOnDevice) → entry_of (get_or ds dev None) entry ≡ Some p → dev < length ds
 within-devices ds dev entry p is =
     ⊎_elim (λ within. within) (λ past. let clash = sym (ap (λ (d : Option Volume). entry_of d entry) (get_or_past ds dev None past)) ∙ is in cc) (cases_lt dev (length ds))
 
-pub devices-changed : (name : List ℕ) (change : Placed → Placed) (ds : List (Option Volume)) (dev entry : ℕ) (p : Placed) → AreSound ds
+pub devices-changed : (name : List ℕ) (change : SpaceOnDevice → SpaceOnDevice) (ds : List (Option Volume)) (dev entry : ℕ) (p : SpaceOnDevice) → AreSound ds
     → entry_of (get_or ds dev None) entry ≡ Some p → has_name name p ≡ true
     → set ds dev (option_map (entry_changed entry change) (get_or ds dev None)) ≡ map (option_map (on_spaces (changed_if name change))) ds
 devices-changed name change ds dev entry p sound is named =
@@ -142,14 +142,14 @@ devices-changed name change ds dev entry p sound is named =
     sym (same ∙ ap (set ds dev) (device-changed name change (get_or ds dev None) entry p is named (omega arith)))
 
 -- two changes that agree on the space that is there
-pub changed-alike : (f g : Placed → Placed) (ds : List (Option Volume)) (dev entry : ℕ) (p : Placed) → entry_of (get_or ds dev None) entry ≡ Some p → f p ≡ g p
+pub changed-alike : (f g : SpaceOnDevice → SpaceOnDevice) (ds : List (Option Volume)) (dev entry : ℕ) (p : SpaceOnDevice) → entry_of (get_or ds dev None) entry ≡ Some p → f p ≡ g p
     → option_map (entry_changed entry f) (get_or ds dev None) ≡ option_map (entry_changed entry g) (get_or ds dev None)
 changed-alike f g ds dev entry p is same = alike (get_or ds dev None) is
   where
     alike : (d : Option Volume) → entry_of d entry ≡ Some p → option_map (entry_changed entry f) d ≡ option_map (entry_changed entry g) d
     alike None h = refl
     alike (Some v) h =
-        ap (λ (o : Option Placed). let w : Volume = record v { entries = set v.entries entry o } in Some w)
+        ap (λ (o : Option SpaceOnDevice). let w : Volume = record v { entries = set v.entries entry o } in Some w)
         (ap (option_map f) h ∙ ap Some same ∙ sym (ap (option_map g) h))
 
 -- What stays sound
@@ -159,19 +159,19 @@ present-mapped f [] = refl
 present-mapped f (None ∷ xs) = present-mapped f xs
 present-mapped f (Some x ∷ xs) = ap (λ l. f x ∷ l) (present-mapped f xs)
 
-same-count : (name : List ℕ) (f : Placed → Placed) → ((p : Placed) → (f p).name ≡ p.name) → (ps : List Placed) → count_by (has_name name) (map f ps) ≡ count_by (has_name name) ps
+same-count : (name : List ℕ) (f : SpaceOnDevice → SpaceOnDevice) → ((p : SpaceOnDevice) → (f p).name ≡ p.name) → (ps : List SpaceOnDevice) → count_by (has_name name) (map f ps) ≡ count_by (has_name name) ps
 same-count name f named [] = refl
 same-count name f named (p ∷ ps) =
     sum_by-cons (λ q. cond (has_name name q) 1 0) (f p) (map f ps)
     ∙ (λ i. cond (bytes_eq (named p i) name) 1 0 + same-count name f named ps i)
     ∙ sym (sum_by-cons (λ q. cond (has_name name q) 1 0) p ps)
 
-device-count : (name : List ℕ) (f : Placed → Placed) → ((p : Placed) → (f p).name ≡ p.name) → (d : Option Volume) → on_device name (option_map (on_spaces f) d) ≤ on_device name d
+device-count : (name : List ℕ) (f : SpaceOnDevice → SpaceOnDevice) → ((p : SpaceOnDevice) → (f p).name ≡ p.name) → (d : Option Volume) → on_device name (option_map (on_spaces f) d) ≤ on_device name d
 device-count name f named None = omega arith
 device-count name f named (Some v) =
     omega (arith, ap (count_by (has_name name)) (present-mapped f v.entries), same-count name f named (present v.entries))
 
-pub sound-mapped : (f : Placed → Placed) → ((p : Placed) → (f p).name ≡ p.name) → (ds : List (Option Volume)) → AreSound ds → AreSound (map (option_map (on_spaces f)) ds)
+pub sound-mapped : (f : SpaceOnDevice → SpaceOnDevice) → ((p : SpaceOnDevice) → (f p).name ≡ p.name) → (ds : List (Option Volume)) → AreSound ds → AreSound (map (option_map (on_spaces f)) ds)
 sound-mapped f named ds sound =
     record {
       few = omega (arith, length-map ds (option_map (on_spaces f)), sound.few);
@@ -181,10 +181,10 @@ sound-mapped f named ds sound =
           omega (arith, count-devices name (map (option_map (on_spaces f)) ds), count-devices name ds);
     }
 
-changed-name : (name : List ℕ) (change : Placed → Placed) → ((p : Placed) → (change p).name ≡ p.name) → (p : Placed) → (changed_if name change p).name ≡ p.name
+changed-name : (name : List ℕ) (change : SpaceOnDevice → SpaceOnDevice) → ((p : SpaceOnDevice) → (change p).name ≡ p.name) → (p : SpaceOnDevice) → (changed_if name change p).name ≡ p.name
 changed-name name change named p = elim (has_name name p) as (λ b. (cond b (change p) p).name ≡ p.name) [ true ↦ named p | false ↦ refl ]
 
-pub sound-changed : (name : List ℕ) (change : Placed → Placed) → ((p : Placed) → (change p).name ≡ p.name) → (ds : List (Option Volume)) → AreSound ds
+pub sound-changed : (name : List ℕ) (change : SpaceOnDevice → SpaceOnDevice) → ((p : SpaceOnDevice) → (change p).name ≡ p.name) → (ds : List (Option Volume)) → AreSound ds
     → AreSound (map (option_map (on_spaces (changed_if name change))) ds)
 sound-changed name change named ds sound = sound-mapped (changed_if name change) (changed-name name change named) ds sound
 
@@ -210,7 +210,7 @@ pub sound-made : (clusters ordinal : ℕ) (ds : List (Option Volume)) (dev : ℕ
     → AreSound (set ds dev (Some (record { clusters = clusters; next_space = ordinal; entries = table_with None })))
 sound-made clusters ordinal ds dev sound = sound-set ds dev _ sound (made-within clusters ordinal ds dev sound)
 
-placed-within : (clusters ordinal : ℕ) (p : Placed) (ds : List (Option Volume)) (dev : ℕ) → find (has_name p.name) (flat_map spaces_on (present ds)) ≡ None
+placed-within : (clusters ordinal : ℕ) (p : SpaceOnDevice) (ds : List (Option Volume)) (dev : ℕ) → find (has_name p.name) (flat_map spaces_on (present ds)) ≡ None
     → AreSound ds → dev < length ds → AreSound (set ds dev (Some (record { clusters = clusters; next_space = ordinal; entries = table_with (Some p) })))
 placed-within clusters ordinal p ds dev new sound within =
     let d : Option Volume = Some (record { clusters = clusters; next_space = ordinal; entries = table_with (Some p) }) in
@@ -232,7 +232,7 @@ placed-within clusters ordinal p ds dev new sound within =
     }
 
 -- a space of a new name on a device
-pub sound-placed : (clusters ordinal : ℕ) (p : Placed) (ds : List (Option Volume)) (dev : ℕ) → find (has_name p.name) (flat_map spaces_on (present ds)) ≡ None
+pub sound-placed : (clusters ordinal : ℕ) (p : SpaceOnDevice) (ds : List (Option Volume)) (dev : ℕ) → find (has_name p.name) (flat_map spaces_on (present ds)) ≡ None
     → AreSound ds → AreSound (set ds dev (Some (record { clusters = clusters; next_space = ordinal; entries = table_with (Some p) })))
 sound-placed clusters ordinal p ds dev new sound = sound-set ds dev _ sound (placed-within clusters ordinal p ds dev new sound)
 
@@ -278,9 +278,9 @@ module _ (name : List ℕ) (ds : List (Option Volume)) (dev : ℕ) (d : Option V
       → find (has_name name) (flat_map spaces_on (present (drop dev ds))) ≡ find (has_name name) (flat_map spaces_on (present (drop (dev + 1) ds)))
   sought-further none = found_from ∙ ap (λ o. option_or o (find (has_name name) (flat_map spaces_on (present (drop (dev + 1) ds))))) none
 
-  pub sought-here : (o : Option Placed) → find (has_name name) (device_spaces (get_or ds dev d)) ≡ o → IsSome o → find (has_name name) (flat_map spaces_on (present (drop dev ds))) ≡ o
+  pub sought-here : (o : Option SpaceOnDevice) → find (has_name name) (device_spaces (get_or ds dev d)) ≡ o → IsSome o → find (has_name name) (flat_map spaces_on (present (drop dev ds))) ≡ o
   sought-here o is some = found_from ∙ ap (λ q. option_or q (find (has_name name) (flat_map spaces_on (present (drop (dev + 1) ds))))) is ∙ first o some
     where
-      first : (q : Option Placed) → IsSome q → option_or q (find (has_name name) (flat_map spaces_on (present (drop (dev + 1) ds)))) ≡ q
+      first : (q : Option SpaceOnDevice) → IsSome q → option_or q (find (has_name name) (flat_map spaces_on (present (drop (dev + 1) ds)))) ≡ q
       first None h = cc
       first (Some p) h = refl

@@ -11,7 +11,7 @@ use Rattle.tq_model.specs.Space.{Space}
 use Rattle.tq_model.specs.SpaceForm.{added_length, gone_length, made_length}
 use Rattle.tq_model.specs.EnqueueStep.{enqueue_step, enqueue_refusal}
 use Rattle.tq_model.specs.DequeueStep.{dequeue_step, dequeue_refusal}
-use Rattle.tq_model.specs.Site.{Site, Placed, space_named, with_space}
+use Rattle.tq_model.specs.Site.{Site, SpaceOnDevice, space_named, with_space}
 use Rattle.tq_model.specs.Step.{Outcome, refused, unless, logged_with, with_queue, enqueue_call, dequeue_call, next_arrival, has_queue, log_refusal}
 
 abbrev pub space_name : Asked → List ℕ
@@ -33,7 +33,7 @@ space_refusal (Enqueue w) clock s = option_map answers.Call (enqueue_refusal s (
 space_refusal (Dequeue w) clock s = option_map answers.Call (dequeue_refusal s (dequeue_call w.now) clock)
 
 -- the refusal by the space or its log
-abbrev pub refusal_of : Asked → ℕ → Placed → Option Answer
+abbrev pub refusal_of : Asked → ℕ → SpaceOnDevice → Option Answer
 refusal_of asked clock p = option_or (space_refusal asked clock p.space) (log_refusal p (payload_length asked))
 
 -- the space once what is asked is granted
@@ -47,7 +47,7 @@ answer_to (Queue c) clock next s = answers.Done
 answer_to (Enqueue w) clock next s = answers.Call (enqueue_step s (enqueue_call w.now clock) clock next).answer
 answer_to (Dequeue w) clock next s = answers.Call (dequeue_step s (dequeue_call w.now) clock).answer
 
-abbrev pub placed_after : Asked → ℕ → Arrival → Placed → Placed
+abbrev pub placed_after : Asked → ℕ → Arrival → SpaceOnDevice → SpaceOnDevice
 placed_after asked clock next p = logged_with (payload_length asked) (space_after asked clock next p.space) p
 
 -- the numbers that a grant takes
@@ -59,14 +59,14 @@ numbers_taken (Dequeue w) = 0
 abbrev pub numbered : Asked → Outcome → Outcome
 numbered asked o = record o { site = record o.site { next = o.site.next + numbers_taken asked } }
 
-abbrev pub granted_in : Asked → Site → Placed → Outcome
+abbrev pub granted_in : Asked → Site → SpaceOnDevice → Outcome
 granted_in asked s p =
     record {
       site = with_space (space_name asked) (logged_with (payload_length asked) (space_after asked s.clock (next_arrival s) p.space)) s;
       answer = answer_to asked s.clock (next_arrival s) p.space;
     }
 
-abbrev pub asked_in : Asked → Site → Option Placed → Outcome
+abbrev pub asked_in : Asked → Site → Option SpaceOnDevice → Outcome
 asked_in asked s None = refused s answers.NoEntry
 asked_in asked s (Some p) = unless (refusal_of asked s.clock p) s (numbered asked (granted_in asked s p))
 

@@ -8,7 +8,7 @@ use Rattle.tq_model.specs.declared.calls.DequeueCall.{DequeueCall}
 use Rattle.tq_model.specs.declared.calls.CallAnswer.{CallAnswer}
 use Rattle.tq_model.specs.declared.calls.CallAnswer.TheVariants.{Dequeued, BadQueue, NoMessage}
 use Rattle.tq_model.specs.CallFlags.{wants_id}
-use Rattle.tq_model.specs.Space.{Space, Queue, Item, Content, Here, Stored, same_id, queue_named, space_without, is_eligible, purged}
+use Rattle.tq_model.specs.Space.{Space, Queue, Entry, BodyContent, Here, Stored, same_id, queue_named, space_without, is_eligible, purged}
 use Rattle.tq_model.specs.EnqueueStep.{CallOutcome}
 
 -- whether an item has the identifier that is asked for, if one is
@@ -21,39 +21,39 @@ has_asked_corr None corr = true
 has_asked_corr (Some asked) None = false
 has_asked_corr (Some asked) (Some corr) = bytes_eq corr.bytes asked.bytes
 
-abbrev pub is_candidate : DequeueCall → Item → Bool
-is_candidate call item = has_asked_id call.id item.letter.id && has_asked_corr call.corr item.letter.corr
+abbrev pub is_candidate : DequeueCall → Entry → Bool
+is_candidate call item = has_asked_id call.id item.message.id && has_asked_corr call.corr item.message.corr
 
-abbrev pub can_answer : DequeueCall → ℕ → Item → Bool
+abbrev pub can_answer : DequeueCall → ℕ → Entry → Bool
 can_answer call clock item = is_candidate call item && is_eligible clock item
 
 -- the entry that the call is answered with: the first eligible candidate of the queue
-abbrev pub found_in : DequeueCall → ℕ → Option Queue → Option Item
+abbrev pub found_in : DequeueCall → ℕ → Option Queue → Option Entry
 found_in call clock None = None
 found_in call clock (Some queue) = find (can_answer call clock) queue.items
 
 -- the bytes of a body that is kept here
-abbrev pub content_bytes : Content → List ℕ
+abbrev pub content_bytes : BodyContent → List ℕ
 content_bytes (Here bytes) = bytes
 content_bytes (Stored n) = []
 
-abbrev pub delivered : DequeueCall → Item → CallAnswer
+abbrev pub delivered : DequeueCall → Entry → CallAnswer
 delivered call item =
     Dequeued (record {
-      body = content_bytes item.letter.body;
-      urcode = item.letter.urcode;
-      id = if wants_id call.asked then Some item.letter.id else None;
+      body = content_bytes item.message.body;
+      urcode = item.message.urcode;
+      id = if wants_id call.asked then Some item.message.id else None;
     })
 
-abbrev pub dequeue_answer : DequeueCall → Option Queue → Option Item → CallAnswer
+abbrev pub dequeue_answer : DequeueCall → Option Queue → Option Entry → CallAnswer
 dequeue_answer call None found = BadQueue
 dequeue_answer call (Some queue) None = NoMessage
 dequeue_answer call (Some queue) (Some item) = delivered call item
 
 -- a peek leaves the entry, another call removes it
-abbrev pub taken_from : Space → DequeueCall → Option Item → Space
+abbrev pub taken_from : Space → DequeueCall → Option Entry → Space
 taken_from s call None = s
-taken_from s call (Some item) = if call.peek then s else space_without item.letter.id s
+taken_from s call (Some item) = if call.peek then s else space_without item.message.id s
 
 -- The step: the space is purged, and the first eligible candidate is handed out.
 abbrev pub dequeue_step : Space → DequeueCall → ℕ → CallOutcome
@@ -64,7 +64,7 @@ dequeue_step before call clock =
     record { space = taken_from s call found; answer = dequeue_answer call queue found }
 
 -- The refusal, where no entry answers the call.
-abbrev pub refusal_at : Option Queue → Option Item → Option CallAnswer
+abbrev pub refusal_at : Option Queue → Option Entry → Option CallAnswer
 refusal_at None found = Some BadQueue
 refusal_at (Some queue) None = Some NoMessage
 refusal_at (Some queue) (Some item) = None

@@ -10,7 +10,7 @@ use Rattle.tq_types.specs.declared.messages.AskedQos.TheVariants.{Default, Persi
 use Rattle.tq_model.specs.declared.calls.EnqueueCall.{EnqueueCall}
 use Rattle.tq_model.specs.declared.calls.CallAnswer.{CallAnswer}
 use Rattle.tq_model.specs.declared.calls.CallAnswer.TheVariants.{Enqueued, BadQueue, NoSpace}
-use Rattle.tq_model.specs.Space.{Space, Queue, Item, Letter, Free, Here, queue_named, with_item_in, purged}
+use Rattle.tq_model.specs.Space.{Space, Queue, Entry, Message, Free, Here, queue_named, with_entry_in, purged}
 use Rattle.tq_model.specs.Room.{pages_at, first_lacking, message_rooms}
 
 pub record CallOutcome : Type 0 where
@@ -35,8 +35,8 @@ plain_label call next =
       path = [];
     }
 
-abbrev pub new_letter : EnqueueCall → Qos → MsgId → Letter
-new_letter call qos id =
+abbrev pub message_to_come : EnqueueCall → Qos → MsgId → Message
+message_to_come call qos id =
     record {
       id = id;
       corr = call.corr;
@@ -52,12 +52,12 @@ new_letter call qos id =
       body = Here call.body;
     }
 
-abbrev pub new_item : Space → Queue → EnqueueCall → Arrival → Item
-new_item s queue call next =
+abbrev pub entry_to_come : Space → Queue → EnqueueCall → Arrival → Entry
+entry_to_come s queue call next =
     record {
       label = plain_label call next;
-      holding = Free;
-      letter = new_letter call (quality call.qos queue.qos) (next_id s next);
+      mark = Free;
+      message = message_to_come call (quality call.qos queue.qos) (next_id s next);
     }
 
 -- The first refusal by the queue and by room, of a space before and after the line's purge.
@@ -74,7 +74,7 @@ enqueue_refusal before call clock = let s = purged clock before in enqueue_refus
 -- a granted enqueue: the message is in its queue, free at once
 abbrev pub with_message : Space → EnqueueCall → Arrival → Option Queue → Space
 with_message s call next None = s
-with_message s call next (Some queue) = record s { queues = with_item_in call.queue (new_item s queue call next) s.queues }
+with_message s call next (Some queue) = record s { queues = with_entry_in call.queue (entry_to_come s queue call next) s.queues }
 
 abbrev pub enqueued : Space → EnqueueCall → Arrival → CallOutcome
 enqueued s call next =

@@ -3,7 +3,7 @@ pub mod Step
 pub mod Text
 pub mod Grammar
 pub mod Reading
-pub mod Faulty
+pub mod MachineWithFaults
 pub mod CallFlags
 pub mod Space
 pub mod Room

@@ -2,15 +2,15 @@
 use Rattle.std.specs.Prelude.{ℕ, ◌==◌, ◌-◌, Bool, if◌then◌else◌, List, [], ◌∷◌, map, Option, Some, None, nat_le}
 use Rattle.std.specs.List.{find, list_any, insert, remove, position_or_len}
 use Rattle.tq_types.specs.declared.identifiers.MsgId.{MsgId}
-use Rattle.tq_types.specs.declared.messages.Mark.{Mark}
+use Rattle.tq_types.specs.declared.messages.Mark.{Mark as HeldMark}
 use Rattle.tq_types.specs.declared.messages.Mark.TheVariants as marks
-use Rattle.tq_types.specs.declared.messages.Message.{Message}
-use Rattle.tq_types.specs.declared.messages.Entry.{Entry}
+use Rattle.tq_types.specs.declared.messages.Message.{Message as HeldMessage}
+use Rattle.tq_types.specs.declared.messages.Entry.{Entry as HeldEntry}
 use Rattle.tq_model.specs.declared.space.Change.{Change}
 use Rattle.tq_model.specs.declared.space.QueueDef.{QueueDef}
 use Rattle.tq_model.specs.declared.space.SpaceMove.{SpaceMove}
 use Rattle.tq_model.specs.declared.space.SpaceMove.TheVariants.{Insert, Remove, Replace, PutQueue, DropQueue}
-use Rattle.tq_model.specs.Space.{Owner, Session, Forwarder, Holding, Free, Adding, Taking, Here, Letter, Item, Queue, Limits, Space, change_first, has_id, holds_id, with_item, without_item, name_before}
+use Rattle.tq_model.specs.Space.{Owner, Session, Forwarder, Mark, Free, Adding, Taking, Here, Message, Entry, Queue, Limits, Space, change_first, has_id, holds_id, with_entry, without_entry, name_before}
 
 pub record IndexedQueue : Type 0 where
   pub index : ℕ
@@ -35,13 +35,13 @@ space_of s = record { site = s.site; number = s.number; limits = s.limits; error
 abbrev pub owner_of : ℕ → Owner
 owner_of n = if nat_le n 32 then Session n else Forwarder (n - 32)
 
-abbrev pub holding_of : Mark → Holding
-holding_of marks.Free = Free
-holding_of (marks.Adding n) = Adding (owner_of n)
-holding_of (marks.Taking n) = Taking (owner_of n)
+abbrev pub mark_view : HeldMark → Mark
+mark_view marks.Free = Free
+mark_view (marks.Adding n) = Adding (owner_of n)
+mark_view (marks.Taking n) = Taking (owner_of n)
 
-abbrev pub letter_of : Message → Letter
-letter_of m =
+abbrev pub message_view : HeldMessage → Message
+message_view m =
     record {
       id = m.id;
       corr = m.corr;
@@ -57,16 +57,16 @@ letter_of m =
       body = Here m.body;
     }
 
-abbrev pub item_of : Entry → Item
-item_of e = record { label = e.label; holding = holding_of e.mark; letter = letter_of e.message }
+abbrev pub entry_view : HeldEntry → Entry
+entry_view e = record { label = e.label; mark = mark_view e.mark; message = message_view e.message }
 
-abbrev pub changed_letter : Change → Letter → Letter
-changed_letter c letter = record letter { priority = c.priority; available = c.available; expiration = c.expiration; retries = c.retries }
+abbrev pub message_after_change : Change → Message → Message
+message_after_change c message = record message { priority = c.priority; available = c.available; expiration = c.expiration; retries = c.retries }
 
-abbrev pub changed_item : Change → Item → Item
-changed_item c item = record { label = c.label; holding = holding_of c.mark; letter = changed_letter c item.letter }
+abbrev pub after_change : Change → Entry → Entry
+after_change c item = record { label = c.label; mark = mark_view c.mark; message = message_after_change c item.message }
 
-abbrev pub queue_of : QueueDef → List Item → Queue
+abbrev pub queue_of : QueueDef → List Entry → Queue
 queue_of d items =
     record {
       name = d.name;
@@ -87,22 +87,22 @@ has_index index q = q.index == index
 abbrev pub on_queue : (Queue → Queue) → IndexedQueue → IndexedQueue
 on_queue change q = record q { queue = change q.queue }
 
-abbrev pub item_inserted : ℕ → Item → List IndexedQueue → List IndexedQueue
-item_inserted index item queues = change_first (has_index index) (on_queue (with_item item)) queues
+abbrev pub entry_inserted : ℕ → Entry → List IndexedQueue → List IndexedQueue
+entry_inserted index item queues = change_first (has_index index) (on_queue (with_entry item)) queues
 
 abbrev pub indexed_holds : MsgId → IndexedQueue → Bool
 indexed_holds id q = holds_id id q.queue
 
-abbrev pub item_removed : MsgId → List IndexedQueue → List IndexedQueue
-item_removed id queues = change_first (indexed_holds id) (on_queue (without_item id)) queues
+abbrev pub entry_removed : MsgId → List IndexedQueue → List IndexedQueue
+entry_removed id queues = change_first (indexed_holds id) (on_queue (without_entry id)) queues
 
-abbrev pub item_with_id : MsgId → List IndexedQueue → Option Item
-item_with_id id [] = None
-item_with_id id (q ∷ qs) = if holds_id id q.queue then find (has_id id) q.queue.items else item_with_id id qs
+abbrev pub entry_with_id : MsgId → List IndexedQueue → Option Entry
+entry_with_id id [] = None
+entry_with_id id (q ∷ qs) = if holds_id id q.queue then find (has_id id) q.queue.items else entry_with_id id qs
 
-abbrev pub item_replaced : Change → Option Item → List IndexedQueue → List IndexedQueue
-item_replaced c None queues = queues
-item_replaced c (Some item) queues = item_inserted c.queue (changed_item c item) (item_removed c.id queues)
+abbrev pub entry_replaced : Change → Option Entry → List IndexedQueue → List IndexedQueue
+entry_replaced c None queues = queues
+entry_replaced c (Some item) queues = entry_inserted c.queue (after_change c item) (entry_removed c.id queues)
 
 abbrev pub comes_before : List ℕ → IndexedQueue → Bool
 comes_before name q = name_before name q.queue.name
@@ -119,9 +119,9 @@ abbrev pub queue_dropped : ℕ → List IndexedQueue → List IndexedQueue
 queue_dropped index queues = remove queues (position_or_len (has_index index) queues)
 
 abbrev pub queues_moved : SpaceMove → List IndexedQueue → List IndexedQueue
-queues_moved (Insert e) queues = item_inserted e.queue (item_of e) queues
-queues_moved (Remove id) queues = item_removed id queues
-queues_moved (Replace c) queues = item_replaced c (item_with_id c.id queues) queues
+queues_moved (Insert e) queues = entry_inserted e.queue (entry_view e) queues
+queues_moved (Remove id) queues = entry_removed id queues
+queues_moved (Replace c) queues = entry_replaced c (entry_with_id c.id queues) queues
 queues_moved (PutQueue index d) queues = queue_put index d queues
 queues_moved (DropQueue index) queues = queue_dropped index queues
 

@@ -3,25 +3,25 @@ use Rattle.std.specs.Prelude.{◌≡◌, ◌<◌, ◌≤◌, ◌⊎◌, ℕ}
 use Rattle.std.specs.List.{All}
 use Rattle.tq_types.specs.declared.identifiers.MsgId.{MsgId}
 use Rattle.tq_types.specs.declared.messages.Qos.TheVariants.{Persistent}
-use Rattle.tq_model.specs.Space.{Item, Free}
+use Rattle.tq_model.specs.Space.{Entry, Free}
 use Rattle.tq_model.specs.Moves.{IndexedQueue, IndexedSpace}
 
 -- an entry that a crash leaves as it is
-pub record IsPlainItem (item : Item) : Type 0 where
-  pub free : item.holding ≡ Free
-  pub persistent : item.letter.qos ≡ Persistent
+pub record SurvivesCrash (item : Entry) : Type 0 where
+  pub free : item.mark ≡ Free
+  pub persistent : item.message.qos ≡ Persistent
 
 -- a queue that makes its messages persistent, and has only such ones
-pub record IsPlainQueue (q : IndexedQueue) : Type 0 where
+pub record HasOnlySurvivors (q : IndexedQueue) : Type 0 where
   pub qos : q.queue.qos ≡ Persistent
-  pub items : All IsPlainItem q.queue.items
+  pub items : All SurvivesCrash q.queue.items
 
-abbrev pub IsPlainSpace : IndexedSpace → Type 0
-IsPlainSpace s = All IsPlainQueue s.queues
+abbrev pub KeepsAllAtCrash : IndexedSpace → Type 0
+KeepsAllAtCrash s = All HasOnlySurvivors s.queues
 
 -- each entry of the space has an identifier with this property
 abbrev pub AllIds : (MsgId → Type 0) → IndexedSpace → Type 0
-AllIds P s = All (λ (q : IndexedQueue). All (λ (item : Item). P item.letter.id) q.queue.items) s.queues
+AllIds P s = All (λ (q : IndexedQueue). All (λ (item : Entry). P item.message.id) q.queue.items) s.queues
 
 -- the epochs of all messages are up to this one
 abbrev pub HasEpochs : ℕ → IndexedSpace → Type 0

@@ -11,7 +11,7 @@ use Rattle.tq_model.specs.Names.{is_name}
 use Rattle.tq_model.specs.Space.{overhead_pages}
 use Rattle.tq_model.specs.Moves.{IndexedSpace, space_of}
 use Rattle.tq_model.specs.SpaceForm.{RawSpace, raw_space, shape_of, log_bytes, empty_space, replayed}
-use Rattle.tq_model.specs.Site.{Site, Volume, Placed, last_epoch, last_space, least_clusters, most_clusters, most_pages, header_clusters, table_with, clusters_for, first_extents}
+use Rattle.tq_model.specs.Site.{Site, Volume, SpaceOnDevice, last_epoch, last_space, least_clusters, most_clusters, most_pages, header_clusters, table_with, clusters_for, first_extents}
 
 -- The layout
 
@@ -271,13 +271,13 @@ pub record Content : Type 0 where
   pub epoch : ℕ  -- of the site journal, which only device 0 has
 
 -- a space in its place, with what its log says
-abbrev pub placed_as : NamedSpace → Replayed → Placed
+abbrev pub placed_as : NamedSpace → Replayed → SpaceOnDevice
 placed_as n r = record { name = n.name; pages = n.pages; extents = first_extents n.pages; logged = end_of r.payloads; space = space_of r.space }
 
-abbrev pub content_with : DevicePart → Option Placed → Content
+abbrev pub content_with : DevicePart → Option SpaceOnDevice → Content
 content_with d placed = record { site = d.site; volume = record { clusters = d.clusters; next_space = d.next_space; entries = table_with placed }; epoch = d.epoch }
 
-abbrev pub placed_in : ℕ → DevicePart → List ℕ → Option Placed
+abbrev pub placed_in : ℕ → DevicePart → List ℕ → Option SpaceOnDevice
 placed_in place d image = option_and_then (λ (n : NamedSpace). option_map (placed_as n) (replayed_in place d n image)) d.named
 
 abbrev pub content_of : ℕ → List ℕ → Content

@@ -5,7 +5,7 @@ use Rattle.tq_types.specs.declared.rooms.Lack.{Lack}
 use Rattle.tq_types.specs.declared.rooms.Resource.TheVariants.{Messages, Pages}
 use Rattle.tq_types.specs.declared.messages.Qos.{Qos}
 use Rattle.tq_types.specs.declared.messages.Qos.TheVariants.{Persistent, NonPersistent}
-use Rattle.tq_model.specs.Space.{Space, Queue, Item, body_length, divided_up}
+use Rattle.tq_model.specs.Space.{Space, Queue, Entry, body_length, divided_up}
 
 -- the pages of a message with a body of n bytes
 abbrev pub pages_for : ℕ → ℕ
@@ -16,11 +16,11 @@ abbrev pub pages_at : Qos → ℕ → ℕ
 pages_at Persistent n = pages_for n
 pages_at NonPersistent n = 0
 
-abbrev pub item_pages : Item → ℕ
-item_pages item = pages_at item.letter.qos (body_length item.letter.body)
+abbrev pub pages_of_entry : Entry → ℕ
+pages_of_entry item = pages_at item.message.qos (body_length item.message.body)
 
 abbrev pub queue_pages : Queue → ℕ
-queue_pages queue = sum_by item_pages queue.items
+queue_pages queue = sum_by pages_of_entry queue.items
 
 -- the pages of all persistent entries
 abbrev pub pages_held : Space → ℕ

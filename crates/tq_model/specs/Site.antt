@@ -30,7 +30,7 @@ abbrev pub most_pages : ℕ
 most_pages = 262016
 
 -- a space in its place on a device
-pub record Placed : Type 0 where
+pub record SpaceOnDevice : Type 0 where
   pub name : List ℕ
   pub pages : ℕ  -- all of them, those of the overhead included
   pub extents : List Extent  -- its clusters
@@ -41,7 +41,7 @@ pub record Placed : Type 0 where
 pub record Volume : Type 0 where
   pub clusters : ℕ
   pub next_space : ℕ  -- the ordinal of the next space to be made on it, from 1
-  pub entries : List (Option Placed)  -- the 16 entries of its table; None is an unused one
+  pub entries : List (Option SpaceOnDevice)  -- the 16 entries of its table; None is an unused one
 
 pub record Site : Type 0 where
   pub identity : Option Identity  -- where device 0 is created
@@ -56,7 +56,7 @@ abbrev pub is_created : Site → ℕ → Bool
 is_created s dev = is_some (volume_of s dev)
 
 -- a table of which only the first entry may be used
-abbrev pub table_with : Option Placed → List (Option Placed)
+abbrev pub table_with : Option SpaceOnDevice → List (Option SpaceOnDevice)
 table_with first = first ∷ replicate 15 None
 
 -- devices that are all blank
@@ -70,32 +70,32 @@ abbrev pub present : {X : Type 0} → List (Option X) → List X
 present options = filter_map (λ o. o) options
 
 -- the spaces of a device, by its table
-abbrev pub spaces_on : Volume → List Placed
+abbrev pub spaces_on : Volume → List SpaceOnDevice
 spaces_on v = present v.entries
 
-abbrev pub site_spaces : Site → List Placed
+abbrev pub site_spaces : Site → List SpaceOnDevice
 site_spaces s = flat_map spaces_on (present s.devices)
 
 abbrev pub space_count : Site → ℕ
 space_count s = length (site_spaces s)
 
-abbrev pub has_name : List ℕ → Placed → Bool
+abbrev pub has_name : List ℕ → SpaceOnDevice → Bool
 has_name name placed = bytes_eq placed.name name
 
-abbrev pub space_named : List ℕ → Site → Option Placed
+abbrev pub space_named : List ℕ → Site → Option SpaceOnDevice
 space_named name s = find (has_name name) (site_spaces s)
 
 -- the site in which each space of that name is changed
-abbrev pub changed_if : List ℕ → (Placed → Placed) → Placed → Placed
+abbrev pub changed_if : List ℕ → (SpaceOnDevice → SpaceOnDevice) → SpaceOnDevice → SpaceOnDevice
 changed_if name change placed = if has_name name placed then change placed else placed
 
-abbrev pub on_spaces : (Placed → Placed) → Volume → Volume
+abbrev pub on_spaces : (SpaceOnDevice → SpaceOnDevice) → Volume → Volume
 on_spaces change v = record v { entries = map (option_map change) v.entries }
 
 abbrev pub on_devices : (Volume → Volume) → Site → Site
 on_devices change s = record s { devices = map (option_map change) s.devices }
 
-abbrev pub with_space : List ℕ → (Placed → Placed) → Site → Site
+abbrev pub with_space : List ℕ → (SpaceOnDevice → SpaceOnDevice) → Site → Site
 with_space name change s = on_devices (on_spaces (changed_if name change)) s
 
 -- how many branches are in doubt; no line prepares one yet
@@ -109,7 +109,7 @@ abbrev pub clusters_for : ℕ → ℕ
 clusters_for pages = divided_up pages 32
 
 abbrev pub taken_clusters : Volume → ℕ
-taken_clusters v = sum_by (λ (p : Placed). sum_by (λ (e : Extent). e.count) p.extents) (spaces_on v)
+taken_clusters v = sum_by (λ (p : SpaceOnDevice). sum_by (λ (e : Extent). e.count) p.extents) (spaces_on v)
 
 abbrev pub free_clusters : Volume → ℕ
 free_clusters v = v.clusters - (header_clusters + taken_clusters v)
@@ -122,7 +122,7 @@ abbrev pub first_extents : ℕ → List Extent
 first_extents pages = record { first = header_clusters; count = clusters_for pages } ∷ []
 
 -- What is left after a crash.
-abbrev pub durable_space : Placed → Placed
+abbrev pub durable_space : SpaceOnDevice → SpaceOnDevice
 durable_space p = record p { space = crashed p.space }
 
 abbrev pub durable : Site → Site

@@ -22,21 +22,21 @@ pub data Owner : Type 0 where
   Branch : ℕ → XIdValue → Owner
 
 -- whether a transaction holds an entry
-pub data Holding : Type 0 where
-  Free : Holding
-  Adding : Owner → Holding
-  Taking : Owner → Holding
+pub data Mark : Type 0 where
+  Free : Mark
+  Adding : Owner → Mark
+  Taking : Owner → Mark
 
 -- a body: its bytes, or its length where the bytes are on pages
-pub data Content : Type 0 where
-  Here : List ℕ → Content
-  Stored : ℕ → Content
+pub data BodyContent : Type 0 where
+  Here : List ℕ → BodyContent
+  Stored : ℕ → BodyContent
 
-abbrev pub body_length : Content → ℕ
+abbrev pub body_length : BodyContent → ℕ
 body_length (Here bytes) = length bytes
 body_length (Stored n) = n
 
-pub record Letter : Type 0 where
+pub record Message : Type 0 where
   pub id : MsgId
   pub corr : Option CorrId
   pub replyq : Option (List ℕ)
@@ -48,13 +48,13 @@ pub record Letter : Type 0 where
   pub reply_qos : AskedQos
   pub urcode : ℤ
   pub retries : ℕ
-  pub body : Content
+  pub body : BodyContent
 
 -- an entry of a queue
-pub record Item : Type 0 where
+pub record Entry : Type 0 where
   pub label : Label
-  pub holding : Holding
-  pub letter : Letter
+  pub mark : Mark
+  pub message : Message
 
 pub record Queue : Type 0 where
   pub name : List ℕ
@@ -64,7 +64,7 @@ pub record Queue : Type 0 where
   pub qos : Qos
   pub retries : ℕ
   pub delay : ℕ
-  pub items : List Item  -- ascending by the label order
+  pub items : List Entry  -- ascending by the label order
 
 -- the limits of a space's creation, the pages being those for messages
 pub record Limits : Type 0 where
@@ -115,8 +115,8 @@ new_space s site number = record { site = site; number = number; limits = limits
 abbrev pub same_id : MsgId → MsgId → Bool
 same_id a b = a.site == b.site && a.space == b.space && a.epoch == b.epoch && a.number == b.number
 
-abbrev pub has_id : MsgId → Item → Bool
-has_id id item = same_id item.letter.id id
+abbrev pub has_id : MsgId → Entry → Bool
+has_id id item = same_id item.message.id id
 
 abbrev pub is_named : List ℕ → Queue → Bool
 is_named name queue = bytes_eq queue.name name
@@ -132,32 +132,32 @@ change_first test change (x ∷ xs) = cond (test x) (change x ∷ xs) (x ∷ cha
 -- Entries in their places
 
 -- whether the item's label stands before the other's
-abbrev pub stands_before : OrderValue → Item → Item → Bool
+abbrev pub stands_before : OrderValue → Entry → Entry → Bool
 stands_before order item other = is_lt (label_cmp order item.label other.label)
 
 -- the items with one more, right before the first that its label stands before
-abbrev pub placed : OrderValue → Item → List Item → List Item
+abbrev pub placed : OrderValue → Entry → List Entry → List Entry
 placed order item items = insert items (position_or_len (stands_before order item) items) item
 
-abbrev pub with_item : Item → Queue → Queue
-with_item item queue = record queue { items = placed queue.order item queue.items }
+abbrev pub with_entry : Entry → Queue → Queue
+with_entry item queue = record queue { items = placed queue.order item queue.items }
 
 -- the items without the one of that identifier
-abbrev pub dropped : MsgId → List Item → List Item
+abbrev pub dropped : MsgId → List Entry → List Entry
 dropped id items = remove items (position_or_len (has_id id) items)
 
 abbrev pub holds_id : MsgId → Queue → Bool
 holds_id id queue = list_any (has_id id) queue.items
 
-abbrev pub without_item : MsgId → Queue → Queue
-without_item id queue = record queue { items = dropped id queue.items }
+abbrev pub without_entry : MsgId → Queue → Queue
+without_entry id queue = record queue { items = dropped id queue.items }
 
 -- the queues without the entry of that identifier
 abbrev pub without : MsgId → List Queue → List Queue
-without id queues = change_first (holds_id id) (without_item id) queues
+without id queues = change_first (holds_id id) (without_entry id) queues
 
-abbrev pub with_item_in : List ℕ → Item → List Queue → List Queue
-with_item_in name item queues = change_first (is_named name) (with_item item) queues
+abbrev pub with_entry_in : List ℕ → Entry → List Queue → List Queue
+with_entry_in name item queues = change_first (is_named name) (with_entry item) queues
 
 -- the space without the entry of that identifier
 abbrev pub space_without : MsgId → Space → Space
@@ -176,12 +176,12 @@ queues_with queue queues = insert queues (position_or_len (comes_after queue.nam
 
 -- Eligible and expired
 
-abbrev pub is_free : Holding → Bool
+abbrev pub is_free : Mark → Bool
 is_free Free = true
 is_free (Adding owner) = false
 is_free (Taking owner) = false
 
-abbrev pub is_adding : Holding → Bool
+abbrev pub is_adding : Mark → Bool
 is_adding Free = false
 is_adding (Adding owner) = true
 is_adding (Taking owner) = false
@@ -195,11 +195,11 @@ abbrev pub is_past : ℕ → Option ℕ → Bool
 is_past t None = false
 is_past t (Some at) = nat_le at t
 
-abbrev pub is_eligible : ℕ → Item → Bool
-is_eligible t item = is_free item.holding && nat_le item.letter.available t && not (is_past t item.letter.expiration)
+abbrev pub is_eligible : ℕ → Entry → Bool
+is_eligible t item = is_free item.mark && nat_le item.message.available t && not (is_past t item.message.expiration)
 
-abbrev pub is_expired : ℕ → Item → Bool
-is_expired t item = is_free item.holding && is_past t item.letter.expiration
+abbrev pub is_expired : ℕ → Entry → Bool
+is_expired t item = is_free item.mark && is_past t item.message.expiration
 
 -- The purge at t: the Free entries go whose expiration is at most t.
 abbrev pub purged_queue : ℕ → Queue → Queue
@@ -209,11 +209,11 @@ abbrev pub purged : ℕ → Space → Space
 purged t s = record s { queues = map (purged_queue t) s.queues }
 
 -- What a crash leaves of a space: messages that are persistent and that no transaction was adding, all of them free.
-abbrev pub outlives : Item → Bool
-outlives item = is_persistent item.letter.qos && not (is_adding item.holding)
+abbrev pub outlives : Entry → Bool
+outlives item = is_persistent item.message.qos && not (is_adding item.mark)
 
-abbrev pub freed : Item → Item
-freed item = record item { holding = Free }
+abbrev pub freed : Entry → Entry
+freed item = record item { mark = Free }
 
 abbrev pub crashed_queue : Queue → Queue
 crashed_queue queue = record queue { items = map freed (filter outlives queue.items) }

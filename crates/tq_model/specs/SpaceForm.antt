@@ -124,13 +124,13 @@ abbrev pub plain_entry : ℕ → Arrival → MsgId → List ℕ → Entry
 plain_entry queue arrival id body = record { queue = queue; label = arrival_label arrival; mark = marks.Free; message = plain_message id body }
 
 -- a queue as it is made where nothing more is asked for
-abbrev pub plain_queue : List ℕ → QueueDef
-plain_queue name = record { name = name; order = record { criteria = []; last = lasts.Fifo }; top = false; before = false; qos = qualities.Persistent; retries = 0; delay = 0 }
+abbrev pub default_queue : List ℕ → QueueDef
+default_queue name = record { name = name; order = record { criteria = []; last = lasts.Fifo }; top = false; before = false; qos = qualities.Persistent; retries = 0; delay = 0 }
 
 abbrev pub move_of : IndexedSpace → SpaceRecord → SpaceMove
 move_of s (Added queue arrival body) = Insert (plain_entry queue arrival (id_in s arrival) body)
 move_of s (Gone arrival) = Remove (id_in s arrival)
-move_of s (QueueMade index name) = PutQueue index (plain_queue name)
+move_of s (QueueMade index name) = PutQueue index (default_queue name)
 
 -- Which records may follow
 

@@ -34,11 +34,11 @@ use Rattle.tq_model.specs.declared.request.CallRequest.{CallRequest}
 use Rattle.tq_model.specs.declared.request.CallRequest.TheVariants as call_requests
 use Rattle.tq_model.specs.CallFlags.{wants_id}
 use Rattle.tq_model.specs.Space.{Space, is_named, overhead_pages, new_space, queues_with}
-use Rattle.tq_model.specs.SpaceForm.{log_bytes, added_length, gone_length, made_length, longest_body, plain_queue}
+use Rattle.tq_model.specs.SpaceForm.{log_bytes, added_length, gone_length, made_length, longest_body, default_queue}
 use Rattle.tq_model.specs.Moves.{queue_of}
 use Rattle.tq_model.specs.EnqueueStep.{CallOutcome, enqueue_step, enqueue_refusal}
 use Rattle.tq_model.specs.DequeueStep.{dequeue_step, dequeue_refusal}
-use Rattle.tq_model.specs.Site.{Site, Volume, Placed, last_epoch, last_space, least_clusters, most_clusters, most_pages, volume_of, is_created, capacity_of, durable, space_count, space_named, with_space, spaces_on, in_doubt_count, table_with, clusters_for, free_clusters, first_extents}
+use Rattle.tq_model.specs.Site.{Site, Volume, SpaceOnDevice, last_epoch, last_space, least_clusters, most_clusters, most_pages, volume_of, is_created, capacity_of, durable, space_count, space_named, with_space, spaces_on, in_doubt_count, table_with, clusters_for, free_clusters, first_extents}
 
 pub record Outcome : Type 0 where
   pub site : Site
@@ -100,7 +100,7 @@ create_device c s = unless_refused (creation_refusal c s) s (record {
 })
 
 -- what is said of a space in its device's listing
-abbrev pub space_line : Placed → SpaceLine
+abbrev pub space_line : SpaceOnDevice → SpaceLine
 space_line p = record { name = p.name; number = p.space.number; pages = p.pages; extents = p.extents }
 
 abbrev pub listing_of : Option Volume → DeviceAnswer
@@ -172,7 +172,7 @@ number_of dev ordinal = 8 * ordinal + dev
 abbrev pub site_number : Site → ℕ
 site_number s = unwrap_or (option_map (λ (i : Identity). i.site) s.identity) 0
 
-abbrev pub placed_new : SpaceCreation → ℕ → ℕ → Placed
+abbrev pub placed_new : SpaceCreation → ℕ → ℕ → SpaceOnDevice
 placed_new c site ordinal =
     record {
       name = c.name;
@@ -199,15 +199,15 @@ create_space c s = unless (space_refusal c s) s (space_made c s (volume_of s c.d
 
 -- The log
 
-abbrev pub log_room : Placed → ℕ → LogRoom
+abbrev pub log_room : SpaceOnDevice → ℕ → LogRoom
 log_room p length = record { need = length + 6; free = log_bytes p.pages - p.logged }
 
 -- a payload of so many bytes does not fit
-abbrev pub log_refusal : Placed → ℕ → Option Answer
+abbrev pub log_refusal : SpaceOnDevice → ℕ → Option Answer
 log_refusal p length = if nat_lt (log_bytes p.pages) (p.logged + (length + 6)) then Some (answers.LogFull (log_room p length)) else None
 
 -- a space after a change that took a payload of so many bytes
-abbrev pub logged_with : ℕ → Space → Placed → Placed
+abbrev pub logged_with : ℕ → Space → SpaceOnDevice → SpaceOnDevice
 logged_with length space p = record p { logged = p.logged + (5 + length); space = space }
 
 -- Queues
@@ -217,15 +217,15 @@ abbrev pub has_queue : List ℕ → Space → Bool
 has_queue name s = list_any (is_named name) s.queues
 
 abbrev pub with_queue : List ℕ → Space → Space
-with_queue name s = record s { queues = queues_with (queue_of (plain_queue name) []) s.queues }
+with_queue name s = record s { queues = queues_with (queue_of (default_queue name) []) s.queues }
 
-abbrev pub queue_refusal : QueueCreation → Placed → Option Answer
+abbrev pub queue_refusal : QueueCreation → SpaceOnDevice → Option Answer
 queue_refusal c p =
     if has_queue c.queue p.space then Some (answers.Space space_answers.Taken)
     else (if nat_le p.space.limits.queues (length p.space.queues) then Some (answers.Space (space_answers.QueueFull p.space.limits.queues))
     else log_refusal p (made_length c.queue))
 
-abbrev pub create_queue_in : QueueCreation → Site → Option Placed → Outcome
+abbrev pub create_queue_in : QueueCreation → Site → Option SpaceOnDevice → Outcome
 create_queue_in c s None = refused s answers.NoEntry
 create_queue_in c s (Some p) = unless (queue_refusal c p) s (record {
   site = with_space c.space (logged_with (made_length c.queue) (with_queue c.queue p.space)) s;
@@ -269,17 +269,17 @@ abbrev pub next_arrival : Site → Arrival
 next_arrival s = record { epoch = unwrap_or (option_map (λ (i : Identity). i.epoch) s.identity) 0; number = s.next }
 
 -- A call on a space: refused by the space, refused by its log, or granted, where the site may take one number more.
-abbrev pub call_refusal : Option CallAnswer → Placed → ℕ → Option Answer
+abbrev pub call_refusal : Option CallAnswer → SpaceOnDevice → ℕ → Option Answer
 call_refusal (Some refusal) p length = Some (answers.Call refusal)
 call_refusal None p length = log_refusal p length
 
-abbrev pub called : List ℕ → CallOutcome → ℕ → Placed → Site → Outcome
+abbrev pub called : List ℕ → CallOutcome → ℕ → SpaceOnDevice → Site → Outcome
 called name outcome length p s = record { site = with_space name (logged_with length outcome.space) s; answer = answers.Call outcome.answer }
 
 abbrev pub with_next_number : Outcome → Outcome
 with_next_number o = record o { site = record o.site { next = o.site.next + 1 } }
 
-abbrev pub enqueue_in : EnqueueWords → Site → Option Placed → Outcome
+abbrev pub enqueue_in : EnqueueWords → Site → Option SpaceOnDevice → Outcome
 enqueue_in w s None = refused s answers.NoEntry
 enqueue_in w s (Some p) =
     let call = enqueue_call w s.clock in
@@ -289,7 +289,7 @@ enqueue_in w s (Some p) =
 abbrev pub enqueue : EnqueueWords → Site → Outcome
 enqueue w s = if nat_lt longest_body (length w.body) then refused s (answers.Invalid (length w.body)) else enqueue_in w s (space_named w.space s)
 
-abbrev pub dequeue_in : DequeueWords → Site → Option Placed → Outcome
+abbrev pub dequeue_in : DequeueWords → Site → Option SpaceOnDevice → Outcome
 dequeue_in w s None = refused s answers.NoEntry
 dequeue_in w s (Some p) =
     let call = dequeue_call w in

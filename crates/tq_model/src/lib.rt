@@ -29,4 +29,4 @@ pub use request::{
     CallRequest, Creation, DeviceRequest, QueueCreation, Request, SpaceCreation, SpaceRequest,
 };
 pub use room::{message_pages, overhead_pages, pages_for};
-pub use space::{Change, QueueDef, Shape, SpaceMove, plain_queue};
+pub use space::{Change, QueueDef, Shape, SpaceMove, default_queue};

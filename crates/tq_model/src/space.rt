@@ -1,5 +1,5 @@
 ghost use Rattle.std.specs.Prelude.{◌≡◌};
-ghost use Rattle.tq_model.specs.SpaceForm.{plain_queue};
+ghost use Rattle.tq_model.specs.SpaceForm.{default_queue};
 
 use tq_types::{Entry, Label, Last, Mark, MsgId, Name, Order, Qos};
 
@@ -59,8 +59,8 @@ pub enum SpaceMove {
 }
 
 /// The queue of that name, as it is made where nothing more is asked for.
-pub fn plain_queue(name: &Name) -> QueueDef
-    ensures { result ≡ plain_queue name.now }
+pub fn default_queue(name: &Name) -> QueueDef
+    ensures { result ≡ default_queue name.now }
 {
     let Ok(order) = Order::new(&[], Last::Fifo) else {
         unreachable!()

@@ -4,8 +4,8 @@ use Rattle.std.specs.Result.{MatchResult, IsErrAnd}
 use Rattle.tq_host.specs.View.{View}
 use Rattle.tq_host.specs.Calls.{HasCauseOf}
 use Rattle.tq_run.specs.declared.status.Status.TheVariants as status
-use Rattle.tq_run.specs.declared.status.Stop.{Stop}
-use Rattle.tq_run.specs.declared.status.Stop.TheVariants.{Damaged, Memory, Input, Output, Device, TooMuchInput}
+use Rattle.tq_run.specs.declared.status.RunEnd.{RunEnd}
+use Rattle.tq_run.specs.declared.status.RunEnd.TheVariants.{Damaged, Memory, Input, Output, Device, TooMuchInput}
 use Rattle.tq_run.specs.Ending.{status_for}
 use Rattle.tq_run.specs.Counts.{Rises, IsQuiet, StopCounts, HasCounts, IsCalm, RunStopCounts, HasRunCounts}
 
@@ -15,7 +15,7 @@ quiet v = record { device = refl; input = refl; output = refl }
 pub quiet_on : (a b c : View) → IsQuiet a b → IsQuiet b c → IsQuiet a c
 quiet_on a b c first second = record { device = second.device ∙ first.device; input = second.input ∙ first.input; output = second.output ∙ first.output }
 
-stop_on : (stop : Stop) (a b c : View) → IsQuiet a b → StopCounts stop b c → StopCounts stop a c
+stop_on : (stop : RunEnd) (a b c : View) → IsQuiet a b → StopCounts stop b c → StopCounts stop a c
 stop_on Damaged a b c first second = quiet_on a b c first second
 stop_on Memory a b c first second = quiet_on a b c first second
 stop_on TooMuchInput a b c first second = quiet_on a b c first second
@@ -24,7 +24,7 @@ stop_on Input a b c first second = record { device = second.device ∙ first.dev
 stop_on Output a b c first second = record { device = second.device ∙ first.device; input = second.input ∙ first.input; output = subst (λ n. Rises n c.streams.output_faults) first.output second.output }
 
 -- a part of a run, after one in which nothing failed
-pub counts_on : {T : Type 0} (r : Result T Stop) (a b c : View) → IsQuiet a b → HasCounts r b c → HasCounts r a c
+pub counts_on : {T : Type 0} (r : Result T RunEnd) (a b c : View) → IsQuiet a b → HasCounts r b c → HasCounts r a c
 counts_on (Ok x) a b c first second = quiet_on a b c first second
 counts_on (Err stop) a b c first second = stop_on stop a b c first second
 
@@ -64,7 +64,7 @@ steady_cause failed before now same never = record { later = omega arith; rose =
 risen_cause : (failed : Type 0) (before now : ℕ) → Rises before now → failed → HasCauseOf failed before now
 risen_cause failed before now rises f = record { later = rises.later; rose = λ g. rises.rose; only = λ lt. f }
 
-pub read_cause : (r : Result (Unit {0}) Stop) (old new : View) → HasRunCounts r old new → HasCauseOf (status_for r ≡ status.ReadFault) old.streams.input_faults new.streams.input_faults
+pub read_cause : (r : Result (Unit {0}) RunEnd) (old new : View) → HasRunCounts r old new → HasCauseOf (status_for r ≡ status.ReadFault) old.streams.input_faults new.streams.input_faults
 read_cause (Ok x) old new h = steady_cause _ _ _ h.input (λ e. cc)
 read_cause (Err Damaged) old new h = steady_cause _ _ _ h.input (λ e. cc)
 read_cause (Err Memory) old new h = steady_cause _ _ _ h.input (λ e. cc)
@@ -73,7 +73,7 @@ read_cause (Err Output) old new h = steady_cause _ _ _ h.input (λ e. cc)
 read_cause (Err TooMuchInput) old new h = steady_cause _ _ _ h.input (λ e. cc)
 read_cause (Err Input) old new h = risen_cause _ _ _ h.input refl
 
-pub write_cause : (r : Result (Unit {0}) Stop) (old new : View) → HasRunCounts r old new → HasCauseOf (status_for r ≡ status.WriteFault) old.streams.output_faults new.streams.output_faults
+pub write_cause : (r : Result (Unit {0}) RunEnd) (old new : View) → HasRunCounts r old new → HasCauseOf (status_for r ≡ status.WriteFault) old.streams.output_faults new.streams.output_faults
 write_cause (Ok x) old new h = steady_cause _ _ _ h.output (λ e. cc)
 write_cause (Err Damaged) old new h = steady_cause _ _ _ h.output (λ e. cc)
 write_cause (Err Memory) old new h = steady_cause _ _ _ h.output (λ e. cc)
@@ -93,7 +93,7 @@ calm_on a b c first second = record { device = omega (arith, first.device, secon
 pub quiet_calm : (a b : View) → IsQuiet a b → IsCalm a b
 quiet_calm a b is = record { device = omega (arith, is.device); input = is.input; output = is.output }
 
-run_stop_on : (stop : Stop) (a b c : View) → IsCalm a b → (stop ≢ Device) → (stop ≢ Damaged) → RunStopCounts stop b c → RunStopCounts stop a c
+run_stop_on : (stop : RunEnd) (a b c : View) → IsCalm a b → (stop ≢ Device) → (stop ≢ Damaged) → RunStopCounts stop b c → RunStopCounts stop a c
 run_stop_on Damaged a b c first device damaged second = absurd (damaged refl)
 run_stop_on Device a b c first device damaged second = absurd (device refl)
 run_stop_on Memory a b c first device damaged second = calm_on a b c first second
@@ -102,11 +102,11 @@ run_stop_on Input a b c first device damaged second = record { device = omega (a
 run_stop_on Output a b c first device damaged second = record { device = omega (arith, first.device, second.device); input = second.input ∙ first.input; output = subst (λ n. Rises n c.streams.output_faults) first.output second.output }
 
 -- a part of a run, after one in which no stream failed
-pub run_counts_on : {T : Type 0} (r : Result T Stop) (a b c : View) → IsCalm a b → (r ≢ Err Device) → (r ≢ Err Damaged) → HasRunCounts r b c → HasRunCounts r a c
+pub run_counts_on : {T : Type 0} (r : Result T RunEnd) (a b c : View) → IsCalm a b → (r ≢ Err Device) → (r ≢ Err Damaged) → HasRunCounts r b c → HasRunCounts r a c
 run_counts_on (Ok x) a b c first device damaged second = calm_on a b c first second
 run_counts_on (Err stop) a b c first device damaged second = run_stop_on stop a b c first (λ e. device (ap Err e)) (λ e. damaged (ap Err e)) second
 
-pub stop_counts : (stop : Stop) (a b : View) → StopCounts stop a b → RunStopCounts stop a b
+pub stop_counts : (stop : RunEnd) (a b : View) → StopCounts stop a b → RunStopCounts stop a b
 stop_counts Damaged a b is = is
 stop_counts Device a b is = is
 stop_counts Memory a b is = quiet_calm a b is
@@ -114,6 +114,6 @@ stop_counts TooMuchInput a b is = quiet_calm a b is
 stop_counts Input a b is = record { device = omega (arith, is.device); input = is.input; output = is.output }
 stop_counts Output a b is = record { device = omega (arith, is.device); input = is.input; output = is.output }
 
-pub run_counts : {T : Type 0} (r : Result T Stop) (a b : View) → HasCounts r a b → HasRunCounts r a b
+pub run_counts : {T : Type 0} (r : Result T RunEnd) (a b : View) → HasCounts r a b → HasRunCounts r a b
 run_counts (Ok x) a b is = quiet_calm a b is
 run_counts (Err stop) a b is = stop_counts stop a b is

@@ -4,7 +4,7 @@ use Rattle.tq_host.specs.View.{View, Streams}
 use Rattle.tq_host.specs.Calls.{HasCauseOf}
 use Rattle.tq_spacefile.specs.declared.fault.FileError.{FileError}
 use Rattle.tq_spacefile.specs.declared.fault.FileError.TheVariants as files
-use Rattle.tq_run.specs.declared.status.Stop.TheVariants as stops
+use Rattle.tq_run.specs.declared.status.RunEnd.TheVariants as stops
 use Rattle.tq_run.specs.Counts.{IsQuiet, StopCounts}
 use Rattle.tq_run.specs.Manager.{stop_for}
 

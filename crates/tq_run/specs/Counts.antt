@@ -2,8 +2,8 @@
 use Rattle.std.specs.Prelude.{◌≡◌, ◌≤◌, ℕ, Result, Ok, Err}
 use Rattle.tq_host.specs.View.{View}
 use Rattle.tq_host.specs.Calls.{Rose}
-use Rattle.tq_run.specs.declared.status.Stop.{Stop}
-use Rattle.tq_run.specs.declared.status.Stop.TheVariants.{Damaged, Memory, Input, Output, Device, TooMuchInput}
+use Rattle.tq_run.specs.declared.status.RunEnd.{RunEnd}
+use Rattle.tq_run.specs.declared.status.RunEnd.TheVariants.{Damaged, Memory, Input, Output, Device, TooMuchInput}
 
 -- a count rose, and did not fall
 pub record Rises (before now : ℕ) : Type 0 where
@@ -37,7 +37,7 @@ pub record RoseOutput (old new : View) : Type 0 where
   pub input : new.streams.input_faults ≡ old.streams.input_faults
   pub output : Rises old.streams.output_faults new.streams.output_faults
 
-abbrev pub StopCounts : Stop → View → View → Type 0
+abbrev pub StopCounts : RunEnd → View → View → Type 0
 StopCounts Device old new = RoseDevice old new
 StopCounts Input old new = RoseInput old new
 StopCounts Output old new = RoseOutput old new
@@ -45,7 +45,7 @@ StopCounts Damaged old new = IsQuiet old new
 StopCounts Memory old new = IsQuiet old new
 StopCounts TooMuchInput old new = IsQuiet old new
 
-abbrev pub HasCounts : {T : Type 0} → Result T Stop → View → View → Type 0
+abbrev pub HasCounts : {T : Type 0} → Result T RunEnd → View → View → Type 0
 HasCounts (Ok x) old new = IsQuiet old new
 HasCounts (Err stop) old new = StopCounts stop old new
 
@@ -66,7 +66,7 @@ pub record LostOutput (old new : View) : Type 0 where
   pub output : Rises old.streams.output_faults new.streams.output_faults
 
 -- The same of a run, whose lines go on after a device failed.
-abbrev pub RunStopCounts : Stop → View → View → Type 0
+abbrev pub RunStopCounts : RunEnd → View → View → Type 0
 RunStopCounts Device old new = RoseDevice old new
 RunStopCounts Input old new = LostInput old new
 RunStopCounts Output old new = LostOutput old new
@@ -74,6 +74,6 @@ RunStopCounts Damaged old new = IsQuiet old new
 RunStopCounts Memory old new = IsCalm old new
 RunStopCounts TooMuchInput old new = IsCalm old new
 
-abbrev pub HasRunCounts : {T : Type 0} → Result T Stop → View → View → Type 0
+abbrev pub HasRunCounts : {T : Type 0} → Result T RunEnd → View → View → Type 0
 HasRunCounts (Ok x) old new = IsCalm old new
 HasRunCounts (Err stop) old new = RunStopCounts stop old new

@@ -4,12 +4,12 @@ use Rattle.tq_host.specs.View.{View, Stamp, Told}
 use Rattle.tq_model.specs.declared.request.Request.TheVariants.{Boot}
 use Rattle.tq_model.specs.Site.{Site}
 use Rattle.tq_model.specs.Grammar.{script_requests}
-use Rattle.tq_model.specs.Faulty.{Trace, Failures, Progress, beginning, after, rose_at, StandForState}
+use Rattle.tq_model.specs.MachineWithFaults.{Trace, Failures, Progress, beginning, after, rose_at, HaveCondition}
 use Rattle.tq_model.specs.Reading.{site_found}
 use Rattle.tq_run.specs.declared.status.Status.{Status}
 use Rattle.tq_run.specs.declared.status.Status.TheVariants as status
-use Rattle.tq_run.specs.declared.status.Stop.{Stop}
-use Rattle.tq_run.specs.declared.status.Stop.TheVariants.{Damaged, Memory, Input, Output, Device, TooMuchInput}
+use Rattle.tq_run.specs.declared.status.RunEnd.{RunEnd}
+use Rattle.tq_run.specs.declared.status.RunEnd.TheVariants.{Damaged, Memory, Input, Output, Device, TooMuchInput}
 use Rattle.tq_run.specs.Failures.{AreFailures}
 use Rattle.tq_run.specs.Manager.{is_bootable}
 
@@ -29,7 +29,7 @@ pub record IsDone (start now : View) (found : Site) : Type 0 where
   pub failures : AreFailures (trace_of start now added) failed
   pub script : now.streams.script ≡ []
   pub output : now.streams.output ≡ start.streams.output ++ (machine_at_end (trace_of start now added) failed found start.streams.script).text
-  pub devices : StandForState 1 now.reads (machine_at_end (trace_of start now added) failed found start.streams.script).condition
+  pub devices : HaveCondition 1 now.reads (machine_at_end (trace_of start now added) failed found start.streams.script).condition
 
 -- nothing was written and nothing given
 pub record IsUntouched (start now : View) : Type 0 where
@@ -58,7 +58,7 @@ IsComplete status.WriteFault = ⊥
 IsComplete status.DeviceFault = ⊥
 
 -- the status of an ending
-abbrev pub status_for : Result (Unit {0}) Stop → Status
+abbrev pub status_for : Result (Unit {0}) RunEnd → Status
 status_for (Ok x) = status.Done
 status_for (Err Damaged) = status.Damaged 0
 status_for (Err Memory) = status.NoMemory

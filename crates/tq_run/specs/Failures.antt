@@ -2,7 +2,7 @@
 use Rattle.std.specs.Prelude.{◌≡◌, ◌<◌, ℕ, true}
 use Rattle.tq_host.specs.View.{last}
 use Rattle.tq_host.specs.Calls.{Rose}
-use Rattle.tq_model.specs.Faulty.{Trace, Failures, count_before, count_at, rose_at}
+use Rattle.tq_model.specs.MachineWithFaults.{Trace, Failures, count_before, count_at, rose_at}
 
 -- A device failed in each step in which the device count rose, and in no other. At its last value the count cannot rise, and
 -- leaves open in which steps one failed; where it has not come to that value, it tells them all.

@@ -4,19 +4,19 @@ use Rattle.tq_host.specs.View.{View}
 use Rattle.tq_model.specs.declared.answer.Identity.{Identity}
 use Rattle.tq_model.specs.Moves.{IndexedSpace, space_of}
 use Rattle.tq_model.specs.Plain.{IsNewer}
-use Rattle.tq_model.specs.Site.{Site, Volume, Placed, table_with, first_extents}
+use Rattle.tq_model.specs.Site.{Site, Volume, SpaceOnDevice, table_with, first_extents}
 use Rattle.tq_model.specs.Step.{can_boot, booted}
 use Rattle.tq_model.specs.Reading.{site_found}
 use Rattle.tq_device.specs.declared.content.DeviceContent.{DeviceContent}
 use Rattle.tq_device.specs.declared.content.NamedSpace.{NamedSpace}
-use Rattle.tq_device.specs.Content.{Stands}
+use Rattle.tq_device.specs.Content.{HasContent}
 use Rattle.tq_spacefile.specs.declared.place.SpacePlace.{SpacePlace}
 use Rattle.tq_spacefile.specs.declared.file.SpaceFile.{SpaceFile}
 use Rattle.tq_spacefile.specs.File.{IsFile, place_in, held_in, logged_in}
 use Rattle.tq_spacefile.specs.declared.fault.FileError.{FileError}
 use Rattle.tq_spacefile.specs.declared.fault.FileError.TheVariants as files
-use Rattle.tq_run.specs.declared.status.Stop.{Stop}
-use Rattle.tq_run.specs.declared.status.Stop.TheVariants as stops
+use Rattle.tq_run.specs.declared.status.RunEnd.{RunEnd}
+use Rattle.tq_run.specs.declared.status.RunEnd.TheVariants as stops
 use Rattle.tq_run.specs.declared.manager.Manager.{Manager}
 
 -- The site
@@ -25,13 +25,13 @@ abbrev pub identity_in : DeviceContent → Identity
 identity_in d = record { site = d.site; epoch = d.epoch }
 
 -- a space of that name, in its place
-abbrev pub placed_at : NamedSpace → ℕ → IndexedSpace → Placed
+abbrev pub placed_at : NamedSpace → ℕ → IndexedSpace → SpaceOnDevice
 placed_at n logged held = record { name = n.name; pages = n.pages; extents = first_extents n.pages; logged = logged; space = space_of held }
 
-abbrev pub placed_of : NamedSpace → SpaceFile → Placed
+abbrev pub placed_of : NamedSpace → SpaceFile → SpaceOnDevice
 placed_of n f = placed_at n (logged_in f) (held_in f)
 
-abbrev pub placed_in : Option NamedSpace → Option SpaceFile → Option Placed
+abbrev pub placed_in : Option NamedSpace → Option SpaceFile → Option SpaceOnDevice
 placed_in None file = None
 placed_in (Some n) None = None
 placed_in (Some n) (Some f) = Some (placed_of n f)
@@ -43,7 +43,7 @@ abbrev pub site_with : Option DeviceContent → Option SpaceFile → ℕ → Sit
 site_with content file next = record { identity = option_map identity_in content; next = next; clock = 0; devices = option_map (volume_in file) content ∷ [] }
 
 -- the site of a device that is created
-abbrev pub site_at : DeviceContent → Option Placed → ℕ → Site
+abbrev pub site_at : DeviceContent → Option SpaceOnDevice → ℕ → Site
 site_at d placed next = record { identity = Some (identity_in d); next = next; clock = 0; devices = Some (record { clusters = d.clusters; next_space = d.next_space; entries = table_with placed }) ∷ [] }
 
 abbrev pub site_of : Manager → Site
@@ -83,7 +83,7 @@ IsFileOn d (Some n) None next image = ⊥
 IsFileOn d (Some n) (Some f) next image = IsSpaceOn d n f next image
 
 pub record IsDeviceOn (d : DeviceContent) (file : Option SpaceFile) (next : ℕ) (image : List ℕ) : Type 0 where
-  pub stands : Stands d image
+  pub stands : HasContent d image
   pub space : IsFileOn d d.named file next image
 
 abbrev pub IsContentOn : Option DeviceContent → Option SpaceFile → ℕ → List ℕ → Type 0
@@ -92,8 +92,8 @@ IsContentOn None (Some f) next image = ⊥
 IsContentOn (Some d) file next image = IsDeviceOn d file next image
 
 -- the device has what the manager holds
-abbrev pub IsOn : Manager → List ℕ → Type 0
-IsOn m image = IsContentOn m.content m.file m.next image
+abbrev pub ImageMatches : Manager → List ℕ → Type 0
+ImageMatches m image = IsContentOn m.content m.file m.next image
 
 -- an epoch can be raised, of a site that is found
 abbrev pub is_bootable : Option Site → Bool
@@ -108,7 +108,7 @@ IsFileAt d (Some n) None image = ⊥
 IsFileAt d (Some n) (Some f) image = (place_in f ≡ place_of d n) × IsFile f d.epoch image
 
 pub record IsLoaded (d : DeviceContent) (file : Option SpaceFile) (image : List ℕ) : Type 0 where
-  pub stands : Stands d image
+  pub stands : HasContent d image
   pub space : IsFileAt d d.named file image
 
 abbrev pub loaded_site : DeviceContent → Option SpaceFile → Site
@@ -118,10 +118,10 @@ loaded_site d file = site_with (Some d) file 0
 pub record IsRaised (d : DeviceContent) (file : Option SpaceFile) (m : Manager) (image : List ℕ) : Type 0 where
   pub below : d.epoch < 4294967295
   pub site : site_of m ≡ booted (loaded_site d file)
-  pub stands : IsOn m image
+  pub stands : ImageMatches m image
 
 -- what ends a run where its space is not loaded
-abbrev pub stop_for : FileError → Stop
+abbrev pub stop_for : FileError → RunEnd
 stop_for files.Damaged = stops.Damaged
 stop_for files.Device = stops.Device
 stop_for files.NoMemory = stops.Memory
@@ -132,4 +132,4 @@ pub record IsBooted (m : Manager) (old new : View) : Type 0 where
   pub stood : site_found 1 old.reads ≡ Some found
   pub raisable : can_boot found ≡ true
   pub site : site_of m ≡ booted found
-  pub stands : IsOn m (new.reads 0)
+  pub stands : ImageMatches m (new.reads 0)

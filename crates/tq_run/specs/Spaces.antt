@@ -7,7 +7,7 @@ use Rattle.tq_model.specs.Site.{clusters_for}
 use Rattle.tq_model.specs.Step.{space_refusal, field_refused, shape_asked}
 use Rattle.tq_model.specs.Parts.{IsPart}
 use Rattle.tq_device.specs.declared.content.DeviceContent.{DeviceContent}
-use Rattle.tq_device.specs.Content.{Stands, part_of, entered}
+use Rattle.tq_device.specs.Content.{HasContent, part_of, entered}
 use Rattle.tq_spacefile.specs.File.{IsFormatted}
 use Rattle.tq_spacefile.specs.Place.{space_end}
 use Rattle.tq_run.specs.declared.manager.Manager.{Manager}
@@ -34,7 +34,7 @@ pub record IsAdmitted (m : Manager) (c : SpaceCreation) (d : DeviceContent) : Ty
 
 -- an image of a device with the pages of a new space, which its table names
 pub record HasNewSpace (d : DeviceContent) (shape : Shape) (image : List ℕ) : Type 0 where
-  pub stands : Stands d image
+  pub stands : HasContent d image
   pub formatted : IsFormatted shape image
   pub reach : space_end shape.pages ≤ length image
 

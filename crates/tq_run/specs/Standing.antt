@@ -8,30 +8,30 @@ use Rattle.tq_model.specs.declared.answer.Answer.{Answer}
 use Rattle.tq_model.specs.declared.request.Request.{Request}
 use Rattle.tq_model.specs.declared.request.Request.TheVariants.{Boot}
 use Rattle.tq_model.specs.Site.{Site}
-use Rattle.tq_model.specs.Faulty.{Condition, Failures, Up, Down}
+use Rattle.tq_model.specs.MachineWithFaults.{Condition, Failures, Up, Down}
 use Rattle.tq_run.specs.declared.manager.Manager.{Manager}
 use Rattle.tq_run.specs.declared.state.State.{State}
 use Rattle.tq_run.specs.declared.state.State.TheVariants as states
-use Rattle.tq_run.specs.Manager.{site_of, IsOn, IsFit}
-use Rattle.tq_run.specs.Stops.{AreOn}
-use Rattle.tq_run.specs.Turns.{ImageStandsFor, IsBeforeOrAfter, turn_between, Origin, origin_of, IsAnswered, IsOfLines, GoesOn}
+use Rattle.tq_run.specs.Manager.{site_of, ImageMatches, IsFit}
+use Rattle.tq_run.specs.Stops.{ImagesMatch}
+use Rattle.tq_run.specs.Turns.{HasCondition, IsBeforeOrAfter, turn_between, Origin, origin_of, IsAnswered, IsOfLines, GoesOn}
 
 -- up with this site
 pub record IsUp (m : Manager) (s : Site) (v : View) : Type 0 where
   pub site : site_of m ≡ s
-  pub on : AreOn m v
+  pub on : ImagesMatch m v
 
 -- the state in memory, and each image that a stop may leave of device 0, have this condition
-abbrev pub IsIn : State → Condition → View → Type 0
-IsIn (states.Up m) (Up s) v = IsUp m s v
-IsIn (states.Up m) (Down sites) v = ⊥
-IsIn states.Down (Up s) v = ⊥
-IsIn states.Down (Down sites) v = (c : List ℕ) → v.may_leave 0 c → ImageStandsFor (Down sites) c
+abbrev pub StateMatches : State → Condition → View → Type 0
+StateMatches (states.Up m) (Up s) v = IsUp m s v
+StateMatches (states.Up m) (Down sites) v = ⊥
+StateMatches states.Down (Up s) v = ⊥
+StateMatches states.Down (Down sites) v = (c : List ℕ) → v.may_leave 0 c → HasCondition (Down sites) c
 
 -- what a state needs for its next call
-abbrev pub IsSound : State → Type 0
-IsSound (states.Up m) = IsFit m
-IsSound states.Down = Unit {0}
+abbrev pub IsWellFormed : State → Type 0
+IsWellFormed (states.Up m) = IsFit m
+IsWellFormed states.Down = Unit {0}
 
 -- the number of the next message
 abbrev pub next_of : State → ℕ
@@ -39,30 +39,30 @@ next_of (states.Up m) = m.next
 next_of states.Down = 0
 
 -- the device has what the state holds
-abbrev pub IsHeld : State → List ℕ → Type 0
-IsHeld (states.Up m) image = IsOn m image
-IsHeld states.Down image = Unit {0}
+abbrev pub ReadMatches : State → List ℕ → Type 0
+ReadMatches (states.Up m) image = ImageMatches m image
+ReadMatches states.Down image = Unit {0}
 
 -- What a line came to: the answer of the machine's turn from the state's condition, and a state with the condition after it;
 -- in each picture of the line the device stands for the condition before the turn, or after it.
 pub record HasTurned (state state' : State) (request : Request) (a : Answer) (old new : View) : Type 0 where
   pub failed : Bool
   pub cause : HasCauseOf (failed ≡ true) old.faults new.faults
-  pub answer : (c : Condition) → IsIn state c old → a ≡ (turn_between failed old.reads c request).answer
-  pub then : (c : Condition) → IsIn state c old → IsIn state' (turn_between failed old.reads c request).condition new
-  pub within : (c : Condition) → IsIn state c old → Within 0 IsAnyStep (IsBeforeOrAfter c (turn_between failed old.reads c request)) old new
+  pub answer : (c : Condition) → StateMatches state c old → a ≡ (turn_between failed old.reads c request).answer
+  pub then : (c : Condition) → StateMatches state c old → StateMatches state' (turn_between failed old.reads c request).condition new
+  pub within : (c : Condition) → StateMatches state c old → Within 0 IsAnyStep (IsBeforeOrAfter c (turn_between failed old.reads c request)) old new
 
 -- the same of a line that came to no answer
 pub record IsTurning (state : State) (request : Request) (old new : View) : Type 0 where
   pub failed : Bool
   pub cause : HasCauseOf (failed ≡ true) old.faults new.faults
-  pub within : (c : Condition) → IsIn state c old → Within 0 IsAnyStep (IsBeforeOrAfter c (turn_between failed old.reads c request)) old new
+  pub within : (c : Condition) → StateMatches state c old → Within 0 IsAnyStep (IsBeforeOrAfter c (turn_between failed old.reads c request)) old new
 
 -- so far is a run whose state is this one
 pub record HasReached (o : Origin) (found : Site) (failed : Failures) (done : List Request) (state : State) (now : View) : Type 0 where
   pub condition : Condition
   pub answered : IsAnswered o now found failed done condition
-  pub is : IsIn state condition now
+  pub is : StateMatches state condition now
   pub some : 1 ≤ length done
 
 -- a part of a run at whose end these requests are answered, and its pictures

@@ -5,30 +5,30 @@ use Rattle.tq_model.specs.Site.{Site, durable}
 use Rattle.tq_model.specs.Reading.{site_found}
 use Rattle.tq_model.specs.Step.{can_boot, booted}
 use Rattle.tq_run.specs.declared.manager.Manager.{Manager}
-use Rattle.tq_run.specs.Manager.{IsOn}
+use Rattle.tq_run.specs.Manager.{ImageMatches}
 use Rattle.tq_model.specs.Grammar.{script_requests}
-use Rattle.tq_model.specs.Faulty.{Trace, Failures, StandForState, machine_after}
+use Rattle.tq_model.specs.MachineWithFaults.{Trace, Failures, HaveCondition, machine_after}
 use Rattle.tq_run.specs.Ending.{trace_of}
 use Rattle.tq_run.specs.Failures.{AreFailures}
 
 -- an image of device 0 stands for a site
-abbrev pub ImageStands : Site → List ℕ → Type 0
-ImageStands s image = site_found 1 (λ d. image) ≡ Some (durable s)
+abbrev pub HasSite : Site → List ℕ → Type 0
+HasSite s image = site_found 1 (λ d. image) ≡ Some (durable s)
 
 abbrev pub IsEither : Site → Site → List ℕ → Type 0
-IsEither s t image = ImageStands s image ⊎ ImageStands t image
+IsEither s t image = HasSite s image ⊎ HasSite t image
 
 -- an image has what was found, or the boot of it
 abbrev pub IsFoundOrBooted : Site → List ℕ → Type 0
-IsFoundOrBooted found image = ImageStands found image ⊎ ((can_boot found ≡ true) × ImageStands (booted found) image)
+IsFoundOrBooted found image = HasSite found image ⊎ ((can_boot found ≡ true) × HasSite (booted found) image)
 
 -- an image has a site of these, or the boot of the one that was found
 abbrev pub IsOldOrBooted : List Site → Site → List ℕ → Type 0
-IsOldOrBooted sites found image = Any (λ s. ImageStands s image) sites ⊎ ((can_boot found ≡ true) × ImageStands (booted found) image)
+IsOldOrBooted sites found image = Any (λ s. HasSite s image) sites ⊎ ((can_boot found ≡ true) × HasSite (booted found) image)
 
 -- each image that a stop may leave of device 0 has what the manager holds
-abbrev pub AreOn : Manager → View → Type 0
-AreOn m v = (c : List ℕ) → v.may_leave 0 c → IsOn m c
+abbrev pub ImagesMatch : Manager → View → Type 0
+ImagesMatch m v = (c : List ℕ) → v.may_leave 0 c → ImageMatches m c
 
 -- no image is one that was not there
 abbrev pub HasNoNewImage : View → View → Type 0
@@ -44,7 +44,7 @@ pub record IsWaiting (start : View) (p : Picture) : Type 0 where
 pub record IsOfRun (start : View) (trace : Trace) (failed : Failures) (found : Site) (p : Picture) : Type 0 where
   pub lines : ℕ
   pub within : lines ≤ 1 + length (script_requests start.streams.script)
-  pub stand : StandForState 1 p.images (machine_after trace failed found (script_requests start.streams.script) lines).condition
+  pub stand : HaveCondition 1 p.images (machine_after trace failed found (script_requests start.streams.script) lines).condition
   pub given : ℕ
   pub gave : p.output ≡ start.streams.output ++ take given (machine_after trace failed found (script_requests start.streams.script) lines).text
   pub answered : length (machine_after trace failed found (script_requests start.streams.script) (lines - 1)).text ≤ given

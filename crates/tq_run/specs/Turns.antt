@@ -5,14 +5,14 @@ use Rattle.tq_host.specs.Within.{Ran}
 use Rattle.tq_model.specs.declared.request.Request.{Request}
 use Rattle.tq_model.specs.Site.{Site}
 use Rattle.tq_model.specs.Reading.{site_found}
-use Rattle.tq_model.specs.Faulty.{Condition, Trace, Failures, Turn, Progress, count_before, found_at, turn_at, beginning, after, StandForState}
+use Rattle.tq_model.specs.MachineWithFaults.{Condition, Trace, Failures, Turn, Progress, count_before, found_at, turn_at, beginning, after, HaveCondition}
 use Rattle.tq_run.specs.Failures.{AreFailures}
 
 -- One line
 
 -- an image of device 0 stands for a condition
-abbrev pub ImageStandsFor : Condition → List ℕ → Type 0
-ImageStandsFor c image = StandForState 1 (λ d. image) c
+abbrev pub HasCondition : Condition → List ℕ → Type 0
+HasCondition c image = HaveCondition 1 (λ d. image) c
 
 -- the turn of a request: whether a device failed in it, and what device 0 read before it
 abbrev pub turn_between : Bool → (ℕ → List ℕ) → Condition → Request → Turn
@@ -20,7 +20,7 @@ turn_between failed reads c request = turn_at failed (site_found 1 reads) c requ
 
 -- an image stands for the condition before a turn, or after it
 abbrev pub IsBeforeOrAfter : Condition → Turn → List ℕ → Type 0
-IsBeforeOrAfter c t image = ImageStandsFor c image ⊎ ImageStandsFor t.condition image
+IsBeforeOrAfter c t image = HasCondition c image ⊎ HasCondition t.condition image
 
 -- Lines
 
@@ -59,7 +59,7 @@ pub record IsOfLines (o : Origin) (now : View) (found : Site) (failed : Failures
   pub stamps : now.streams.stamps ≡ o.stamps ++ added
   pub lines : ℕ
   pub within : lines ≤ length requests
-  pub stand : StandForState 1 p.images (told_after o now.faults added failed found (take lines requests)).condition
+  pub stand : HaveCondition 1 p.images (told_after o now.faults added failed found (take lines requests)).condition
   pub given : ℕ
   pub gave : p.output ≡ o.output ++ take given (told_after o now.faults added failed found (take lines requests)).text
   pub answered : length (told_after o now.faults added failed found (take (lines - 1) requests)).text ≤ given

@@ -11,13 +11,13 @@ ghost use Rattle.tq_spacefile.specs.File.{place_in, held_in, logged_in, IsFile, 
 ghost use Rattle.tq_spacefile.specs.Place.{space_end};
 ghost use Rattle.tq_spacefile.specs.Record.{IsRecorded};
 ghost use Rattle.tq_run.specs.Counts.{HasCounts};
-ghost use Rattle.tq_run.specs.Stops.{AreOn, IsEither};
-ghost use Rattle.tq_run.specs.Manager.{site_of, IsOn, IsFit};
+ghost use Rattle.tq_run.specs.Stops.{ImagesMatch, IsEither};
+ghost use Rattle.tq_run.specs.Manager.{site_of, ImageMatches, IsFit};
 ghost use Rattle.tq_run.specs.Calls.{IsCalled, IsGrantedPlan, IsSameOrChanged, enqueued_in, enqueue_refusal_in, dequeued_in, dequeue_refusal_in};
 
 use crate::manager::Manager;
 use crate::spaces::is_named;
-use crate::status::Stop;
+use crate::status::RunEnd;
 use std::alloc::Global;
 use tq_host::Host;
 use tq_model::{
@@ -72,7 +72,7 @@ pub fn grant<H: Host>(
     file: &mut SpaceFile,
     plan: Plan,
     answer: Answer,
-) -> Result<Called, Stop>
+) -> Result<Called, RunEnd>
     requires dev { (place_in file.old).dev ≡ 0 }
     requires recorded { (r : SpaceRecord) × IsRecorded (held_in file.old) plan r }
     requires reach { H.tells.reads → space_end (place_in file.old).pages ≤ length ((H.view host.old).reads 0) }
@@ -86,13 +86,13 @@ pub fn grant<H: Host>(
         → Within 0 IsSameButSpace (IsOldOrLogged (place_in file.old) epoch (held_in file.old) (logged_in file.old) r) (H.view host.old) (H.view host.new) }
     ensures counts { HasCounts result (H.view host.old) (H.view host.new) }
     ensures rest { KeepsRest 0 (H.view host.old) (H.view host.new) }
-    ensures two { IfErr result (λ e. (e ≢ Stop.Memory) → e ≡ Stop.Device) }
+    ensures two { IfErr result (λ e. (e ≢ RunEnd.Memory) → e ≡ RunEnd.Device) }
 {
     match file.commit(alloc, host, plan) {
         Ok(()) => Ok(Called::Granted(answer)),
         Err(CommitError::LogFull(room)) => Ok(Called::Refused(Answer::LogFull(room))),
-        Err(CommitError::Device) => Err(Stop::Device),
-        Err(CommitError::NoMemory) => Err(Stop::Memory),
+        Err(CommitError::Device) => Err(RunEnd::Device),
+        Err(CommitError::NoMemory) => Err(RunEnd::Memory),
     }
 }
 
@@ -152,7 +152,7 @@ fn enqueue_in<H: Host>(
     file: &mut SpaceFile,
     words: EnqueueWords,
     next: Arrival,
-) -> Result<Called, Stop>
+) -> Result<Called, RunEnd>
     requires dev { (place_in file.old).dev ≡ 0 }
     requires checked { length words.body ≤ 65536 }
     requires reach { H.tells.reads → space_end (place_in file.old).pages ≤ length ((H.view host.old).reads 0) }
@@ -165,7 +165,7 @@ fn enqueue_in<H: Host>(
         → Within 0 IsSameButSpace (IsSameOrChanged file.old (enqueue_refusal_in file.old words) next.epoch next.number (next.number + 1) (added_length words.body) (enqueued_in file.old words next).space) (H.view host.old) (H.view host.new) }
     ensures counts { HasCounts result (H.view host.old) (H.view host.new) }
     ensures rest { KeepsRest 0 (H.view host.old) (H.view host.new) }
-    ensures two { IfErr result (λ e. (e ≢ Stop.Memory) → e ≡ Stop.Device) }
+    ensures two { IfErr result (λ e. (e ≢ RunEnd.Memory) → e ≡ RunEnd.Device) }
 {
     let ask = EnqueueAsk {
         call: enqueue_call(words),
@@ -181,7 +181,7 @@ fn enqueue_in<H: Host>(
             grant(alloc, host, file, plan, answer)
         }
         Err(Refusal::Refused(answer, _)) => Ok(Called::Refused(Answer::Call(answer))),
-        Err(Refusal::NoMemory) => Err(Stop::Memory),
+        Err(Refusal::NoMemory) => Err(RunEnd::Memory),
     }
 }
 
@@ -191,7 +191,7 @@ fn dequeue_in<H: Host>(
     host: &mut H,
     file: &mut SpaceFile,
     words: DequeueWords,
-) -> Result<Called, Stop>
+) -> Result<Called, RunEnd>
     requires dev { (place_in file.old).dev ≡ 0 }
     requires reach { H.tells.reads → space_end (place_in file.old).pages ≤ length ((H.view host.old).reads 0) }
     ensures called { (epoch number : ℕ) → IfOk result (IsCalled file.old file.new (dequeue_refusal_in file.old words) (answers.Call (dequeued_in file.old words).answer) epoch number number gone_length (dequeued_in file.old words).space) }
@@ -202,7 +202,7 @@ fn dequeue_in<H: Host>(
         → Within 0 IsSameButSpace (IsSameOrChanged file.old (dequeue_refusal_in file.old words) epoch number number gone_length (dequeued_in file.old words).space) (H.view host.old) (H.view host.new) }
     ensures counts { HasCounts result (H.view host.old) (H.view host.new) }
     ensures rest { KeepsRest 0 (H.view host.old) (H.view host.new) }
-    ensures two { IfErr result (λ e. (e ≢ Stop.Memory) → e ≡ Stop.Device) }
+    ensures two { IfErr result (λ e. (e ≢ RunEnd.Memory) → e ≡ RunEnd.Device) }
 {
     let ask = DequeueAsk {
         call: dequeue_call(words),
@@ -217,7 +217,7 @@ fn dequeue_in<H: Host>(
             grant(alloc, host, file, plan, answer)
         }
         Err(Refusal::Refused(answer, _)) => Ok(Called::Refused(Answer::Call(answer))),
-        Err(Refusal::NoMemory) => Err(Stop::Memory),
+        Err(Refusal::NoMemory) => Err(RunEnd::Memory),
     }
 }
 
@@ -241,20 +241,20 @@ fn enqueue<H: Host>(
     host: &mut H,
     manager: &mut Manager,
     words: EnqueueWords,
-) -> Result<Answer, Stop>
+) -> Result<Answer, RunEnd>
     requires fit { IsFit manager.old }
     requires next { manager.old.next < 4294967295 }
-    requires holds { H.tells.reads → IsOn manager.old ((H.view host.old).reads 0) }
+    requires holds { H.tells.reads → ImageMatches manager.old ((H.view host.old).reads 0) }
     ensures answer { IfOk result (λ a. a ≡ (enqueue words (site_of manager.old)).answer) }
     ensures site { OnOk result (site_of manager.new ≡ (enqueue words (site_of manager.old)).site) }
     ensures next { OnOk result (manager.new.next ≤ manager.old.next + 1) }
     ensures fit { OnOk result (IsFit manager.new) }
-    ensures holds { OnOk result (H.tells.reads → IsOn manager.new ((H.view host.new).reads 0)) }
-    ensures stop { H.tells.reads → AreOn manager.old (H.view host.old) → Within 0 IsAnyStep (IsEither (site_of manager.old) (enqueue words (site_of manager.old)).site) (H.view host.old) (H.view host.new) }
-    ensures images { OnOk result (H.tells.reads → AreOn manager.old (H.view host.old) → AreOn manager.new (H.view host.new)) }
+    ensures holds { OnOk result (H.tells.reads → ImageMatches manager.new ((H.view host.new).reads 0)) }
+    ensures stop { H.tells.reads → ImagesMatch manager.old (H.view host.old) → Within 0 IsAnyStep (IsEither (site_of manager.old) (enqueue words (site_of manager.old)).site) (H.view host.old) (H.view host.new) }
+    ensures images { OnOk result (H.tells.reads → ImagesMatch manager.old (H.view host.old) → ImagesMatch manager.new (H.view host.new)) }
     ensures counts { HasCounts result (H.view host.old) (H.view host.new) }
     ensures rest { KeepsRest 0 (H.view host.old) (H.view host.new) }
-    ensures two { IfErr result (λ e. (e ≢ Stop.Memory) → e ≡ Stop.Device) }
+    ensures two { IfErr result (λ e. (e ≢ RunEnd.Memory) → e ≡ RunEnd.Device) }
 {
     if words.body.len() > LONGEST_BODY {
         return Ok(Answer::Invalid(words.body.len() as u64));
@@ -277,19 +277,19 @@ fn dequeue<H: Host>(
     host: &mut H,
     manager: &mut Manager,
     words: DequeueWords,
-) -> Result<Answer, Stop>
+) -> Result<Answer, RunEnd>
     requires fit { IsFit manager.old }
-    requires holds { H.tells.reads → IsOn manager.old ((H.view host.old).reads 0) }
+    requires holds { H.tells.reads → ImageMatches manager.old ((H.view host.old).reads 0) }
     ensures answer { IfOk result (λ a. a ≡ (dequeue words (site_of manager.old)).answer) }
     ensures site { OnOk result (site_of manager.new ≡ (dequeue words (site_of manager.old)).site) }
     ensures next { OnOk result (manager.new.next ≡ manager.old.next) }
     ensures fit { OnOk result (IsFit manager.new) }
-    ensures holds { OnOk result (H.tells.reads → IsOn manager.new ((H.view host.new).reads 0)) }
-    ensures stop { AreOn manager.old (H.view host.old) → Within 0 IsAnyStep (IsEither (site_of manager.old) (dequeue words (site_of manager.old)).site) (H.view host.old) (H.view host.new) }
-    ensures images { OnOk result (H.tells.reads → AreOn manager.old (H.view host.old) → AreOn manager.new (H.view host.new)) }
+    ensures holds { OnOk result (H.tells.reads → ImageMatches manager.new ((H.view host.new).reads 0)) }
+    ensures stop { ImagesMatch manager.old (H.view host.old) → Within 0 IsAnyStep (IsEither (site_of manager.old) (dequeue words (site_of manager.old)).site) (H.view host.old) (H.view host.new) }
+    ensures images { OnOk result (H.tells.reads → ImagesMatch manager.old (H.view host.old) → ImagesMatch manager.new (H.view host.new)) }
     ensures counts { HasCounts result (H.view host.old) (H.view host.new) }
     ensures rest { KeepsRest 0 (H.view host.old) (H.view host.new) }
-    ensures two { IfErr result (λ e. (e ≢ Stop.Memory) → e ≡ Stop.Device) }
+    ensures two { IfErr result (λ e. (e ≢ RunEnd.Memory) → e ≡ RunEnd.Device) }
 {
     if !is_named(manager, &words.space) {
         return Ok(Answer::NoEntry);
@@ -307,20 +307,20 @@ pub fn serve_call<H: Host>(
     host: &mut H,
     manager: &mut Manager,
     request: CallRequest,
-) -> Result<Answer, Stop>
+) -> Result<Answer, RunEnd>
     requires fit { IsFit manager.old }
     requires next { manager.old.next < 4294967295 }
-    requires holds { H.tells.reads → IsOn manager.old ((H.view host.old).reads 0) }
+    requires holds { H.tells.reads → ImageMatches manager.old ((H.view host.old).reads 0) }
     ensures answer { IfOk result (λ a. a ≡ (call_step (site_of manager.old) request).answer) }
     ensures site { OnOk result (site_of manager.new ≡ (call_step (site_of manager.old) request).site) }
     ensures next { OnOk result (manager.new.next ≤ manager.old.next + 1) }
     ensures fit { OnOk result (IsFit manager.new) }
-    ensures holds { OnOk result (H.tells.reads → IsOn manager.new ((H.view host.new).reads 0)) }
-    ensures stop { H.tells.reads → AreOn manager.old (H.view host.old) → Within 0 IsAnyStep (IsEither (site_of manager.old) (call_step (site_of manager.old) request).site) (H.view host.old) (H.view host.new) }
-    ensures images { OnOk result (H.tells.reads → AreOn manager.old (H.view host.old) → AreOn manager.new (H.view host.new)) }
+    ensures holds { OnOk result (H.tells.reads → ImageMatches manager.new ((H.view host.new).reads 0)) }
+    ensures stop { H.tells.reads → ImagesMatch manager.old (H.view host.old) → Within 0 IsAnyStep (IsEither (site_of manager.old) (call_step (site_of manager.old) request).site) (H.view host.old) (H.view host.new) }
+    ensures images { OnOk result (H.tells.reads → ImagesMatch manager.old (H.view host.old) → ImagesMatch manager.new (H.view host.new)) }
     ensures counts { HasCounts result (H.view host.old) (H.view host.new) }
     ensures rest { KeepsRest 0 (H.view host.old) (H.view host.new) }
-    ensures two { IfErr result (λ e. (e ≢ Stop.Memory) → e ≡ Stop.Device) }
+    ensures two { IfErr result (λ e. (e ≢ RunEnd.Memory) → e ≡ RunEnd.Device) }
 {
     match request {
         CallRequest::Enqueue(_, words) => enqueue(alloc, host, manager, words),

@@ -3,13 +3,13 @@ ghost use Rattle.tq_host.specs.Within.{KeepsRest, Within};
 ghost use Rattle.tq_model.specs.Step.{device_step, creation_refusal, create_device, list_device, ready, site_asked};
 ghost use Rattle.tq_device.specs.Content.{IsAnyStep};
 ghost use Rattle.tq_run.specs.Counts.{HasCounts};
-ghost use Rattle.tq_run.specs.Stops.{AreOn, IsEither};
-ghost use Rattle.tq_run.specs.Manager.{site_of, placed_in, placed_of, volume_in, IsOn, IsFit};
+ghost use Rattle.tq_run.specs.Stops.{ImagesMatch, IsEither};
+ghost use Rattle.tq_run.specs.Manager.{site_of, placed_in, placed_of, volume_in, ImageMatches, IsFit};
 ghost use Rattle.tq_model.specs.Site.{capacity_of, first_extents, clusters_for, space_count, spaces_on};
 ghost use Rattle.tq_model.specs.Step.{space_line};
 
 use crate::manager::Manager;
-use crate::status::Stop;
+use crate::status::RunEnd;
 use std::alloc::{AllocError, Global};
 use tq_device::{DeviceContent, NamedSpace, create};
 use tq_host::Host;
@@ -162,26 +162,26 @@ fn create_device<H: Host>(
     host: &mut H,
     manager: &mut Manager,
     creation: &Creation,
-) -> Result<Answer, Stop>
+) -> Result<Answer, RunEnd>
     requires fit { IsFit manager.old }
-    requires holds { H.tells.reads → IsOn manager.old ((H.view host.old).reads 0) }
+    requires holds { H.tells.reads → ImageMatches manager.old ((H.view host.old).reads 0) }
     ensures answer { IfOk result (λ a. a ≡ (create_device creation.now (site_of manager.old)).answer) }
     ensures site { OnOk result (site_of manager.new ≡ (create_device creation.now (site_of manager.old)).site) }
     ensures next { OnOk result (manager.new.next ≤ manager.old.next) }
     ensures fit { OnOk result (IsFit manager.new) }
-    ensures holds { OnOk result (H.tells.reads → IsOn manager.new ((H.view host.new).reads 0)) }
-    ensures stop { AreOn manager.old (H.view host.old) → Within 0 IsAnyStep (IsEither (site_of manager.old) (create_device creation.now (site_of manager.old)).site) (H.view host.old) (H.view host.new) }
-    ensures images { OnOk result (H.tells.reads → AreOn manager.old (H.view host.old) → AreOn manager.new (H.view host.new)) }
+    ensures holds { OnOk result (H.tells.reads → ImageMatches manager.new ((H.view host.new).reads 0)) }
+    ensures stop { ImagesMatch manager.old (H.view host.old) → Within 0 IsAnyStep (IsEither (site_of manager.old) (create_device creation.now (site_of manager.old)).site) (H.view host.old) (H.view host.new) }
+    ensures images { OnOk result (H.tells.reads → ImagesMatch manager.old (H.view host.old) → ImagesMatch manager.new (H.view host.new)) }
     ensures counts { HasCounts result (H.view host.old) (H.view host.new) }
     ensures rest { KeepsRest 0 (H.view host.old) (H.view host.new) }
-    ensures only { IfErr result (λ e. e ≡ Stop.Device) }
+    ensures only { IfErr result (λ e. e ≡ RunEnd.Device) }
 {
     if let Some(refusal) = refusal(manager, creation) {
         return Ok(Answer::Device(refusal));
     }
     let site = site_number(creation) as u32;
     let clusters = creation.clusters as u32;
-    let content = create(host, 0, site, clusters).map_err(|_| Stop::Device)?;
+    let content = create(host, 0, site, clusters).map_err(|_| RunEnd::Device)?;
     *manager = Manager {
         content: Some(content),
         file: None,
@@ -196,24 +196,24 @@ pub fn serve_device<H: Host>(
     host: &mut H,
     manager: &mut Manager,
     request: &DeviceRequest,
-) -> Result<Answer, Stop>
+) -> Result<Answer, RunEnd>
     requires fit { IsFit manager.old }
-    requires holds { H.tells.reads → IsOn manager.old ((H.view host.old).reads 0) }
+    requires holds { H.tells.reads → ImageMatches manager.old ((H.view host.old).reads 0) }
     ensures answer { IfOk result (λ a. a ≡ (device_step (site_of manager.old) request.now).answer) }
     ensures site { OnOk result (site_of manager.new ≡ (device_step (site_of manager.old) request.now).site) }
     ensures next { OnOk result (manager.new.next ≤ manager.old.next) }
     ensures fit { OnOk result (IsFit manager.new) }
-    ensures holds { OnOk result (H.tells.reads → IsOn manager.new ((H.view host.new).reads 0)) }
-    ensures stop { AreOn manager.old (H.view host.old) → Within 0 IsAnyStep (IsEither (site_of manager.old) (device_step (site_of manager.old) request.now).site) (H.view host.old) (H.view host.new) }
-    ensures images { OnOk result (H.tells.reads → AreOn manager.old (H.view host.old) → AreOn manager.new (H.view host.new)) }
+    ensures holds { OnOk result (H.tells.reads → ImageMatches manager.new ((H.view host.new).reads 0)) }
+    ensures stop { ImagesMatch manager.old (H.view host.old) → Within 0 IsAnyStep (IsEither (site_of manager.old) (device_step (site_of manager.old) request.now).site) (H.view host.old) (H.view host.new) }
+    ensures images { OnOk result (H.tells.reads → ImagesMatch manager.old (H.view host.old) → ImagesMatch manager.new (H.view host.new)) }
     ensures counts { HasCounts result (H.view host.old) (H.view host.new) }
     ensures rest { KeepsRest 0 (H.view host.old) (H.view host.new) }
-    ensures two { IfErr result (λ e. (e ≢ Stop.Memory) → e ≡ Stop.Device) }
+    ensures two { IfErr result (λ e. (e ≢ RunEnd.Memory) → e ≡ RunEnd.Device) }
 {
     match request {
         DeviceRequest::Create(creation) => create_device(host, manager, creation),
         DeviceRequest::List(dev) => {
-            let answer = listing(alloc, manager, *dev).map_err(|_| Stop::Memory)?;
+            let answer = listing(alloc, manager, *dev).map_err(|_| RunEnd::Memory)?;
             Ok(Answer::Device(answer))
         }
     }

@@ -8,14 +8,14 @@ ghost use Rattle.tq_device.specs.Content.{IsAnyStep};
 ghost use Rattle.tq_spacefile.specs.File.{place_in, held_in, IsFile, AreFile, IsSameButSpace};
 ghost use Rattle.tq_spacefile.specs.Place.{space_end};
 ghost use Rattle.tq_run.specs.Counts.{HasCounts};
-ghost use Rattle.tq_run.specs.Stops.{AreOn, IsEither};
-ghost use Rattle.tq_run.specs.Manager.{site_of, IsOn, IsFit};
+ghost use Rattle.tq_run.specs.Stops.{ImagesMatch, IsEither};
+ghost use Rattle.tq_run.specs.Manager.{site_of, ImageMatches, IsFit};
 ghost use Rattle.tq_run.specs.Calls.{IsCalled, IsSameOrChanged, queue_refusal_in};
 
 use crate::calls::{Called, grant};
 use crate::manager::Manager;
 use crate::spaces::is_named;
-use crate::status::Stop;
+use crate::status::RunEnd;
 use std::alloc::Global;
 use tq_host::Host;
 use tq_model::{Answer, QueueCreation, SpaceAnswer};
@@ -29,7 +29,7 @@ fn create_queue_in<H: Host>(
     host: &mut H,
     file: &mut SpaceFile,
     name: &Name,
-) -> Result<Called, Stop>
+) -> Result<Called, RunEnd>
     requires dev { (place_in file.old).dev ≡ 0 }
     requires reach { H.tells.reads → space_end (place_in file.old).pages ≤ length ((H.view host.old).reads 0) }
     ensures called { (epoch number : ℕ) → IfOk result (IsCalled file.old file.new (queue_refusal_in file.old name.now) answers.Done epoch number number (made_length name.now) (with_queue name.now (space_of (held_in file.old)))) }
@@ -40,7 +40,7 @@ fn create_queue_in<H: Host>(
         → Within 0 IsSameButSpace (IsSameOrChanged file.old (queue_refusal_in file.old name.now) epoch number number (made_length name.now) (with_queue name.now (space_of (held_in file.old)))) (H.view host.old) (H.view host.new) }
     ensures counts { HasCounts result (H.view host.old) (H.view host.new) }
     ensures rest { KeepsRest 0 (H.view host.old) (H.view host.new) }
-    ensures two { IfErr result (λ e. (e ≢ Stop.Memory) → e ≡ Stop.Device) }
+    ensures two { IfErr result (λ e. (e ≢ RunEnd.Memory) → e ≡ RunEnd.Device) }
 {
     match file.space().plan_queue(alloc, name) {
         Ok(plan) => grant(alloc, host, file, plan, Answer::Done),
@@ -48,7 +48,7 @@ fn create_queue_in<H: Host>(
         Err(QueueRefusal::QueueFull(limit)) => Ok(Called::Refused(Answer::Space(
             SpaceAnswer::QueueFull(limit),
         ))),
-        Err(QueueRefusal::NoMemory) => Err(Stop::Memory),
+        Err(QueueRefusal::NoMemory) => Err(RunEnd::Memory),
     }
 }
 
@@ -58,19 +58,19 @@ pub fn create_queue<H: Host>(
     host: &mut H,
     manager: &mut Manager,
     creation: &QueueCreation,
-) -> Result<Answer, Stop>
+) -> Result<Answer, RunEnd>
     requires fit { IsFit manager.old }
-    requires holds { H.tells.reads → IsOn manager.old ((H.view host.old).reads 0) }
+    requires holds { H.tells.reads → ImageMatches manager.old ((H.view host.old).reads 0) }
     ensures answer { IfOk result (λ a. a ≡ (create_queue creation.now (site_of manager.old)).answer) }
     ensures site { OnOk result (site_of manager.new ≡ (create_queue creation.now (site_of manager.old)).site) }
     ensures next { OnOk result (manager.new.next ≡ manager.old.next) }
     ensures fit { OnOk result (IsFit manager.new) }
-    ensures holds { OnOk result (H.tells.reads → IsOn manager.new ((H.view host.new).reads 0)) }
-    ensures stop { AreOn manager.old (H.view host.old) → Within 0 IsAnyStep (IsEither (site_of manager.old) (create_queue creation.now (site_of manager.old)).site) (H.view host.old) (H.view host.new) }
-    ensures images { OnOk result (H.tells.reads → AreOn manager.old (H.view host.old) → AreOn manager.new (H.view host.new)) }
+    ensures holds { OnOk result (H.tells.reads → ImageMatches manager.new ((H.view host.new).reads 0)) }
+    ensures stop { ImagesMatch manager.old (H.view host.old) → Within 0 IsAnyStep (IsEither (site_of manager.old) (create_queue creation.now (site_of manager.old)).site) (H.view host.old) (H.view host.new) }
+    ensures images { OnOk result (H.tells.reads → ImagesMatch manager.old (H.view host.old) → ImagesMatch manager.new (H.view host.new)) }
     ensures counts { HasCounts result (H.view host.old) (H.view host.new) }
     ensures rest { KeepsRest 0 (H.view host.old) (H.view host.new) }
-    ensures two { IfErr result (λ e. (e ≢ Stop.Memory) → e ≡ Stop.Device) }
+    ensures two { IfErr result (λ e. (e ≢ RunEnd.Memory) → e ≡ RunEnd.Device) }
 {
     if !is_named(manager, &creation.space) {
         return Ok(Answer::NoEntry);

@@ -3,14 +3,14 @@ ghost use Rattle.tq_host.specs.View.{TellsAll};
 ghost use Rattle.tq_host.specs.Within.{KeepsRest};
 ghost use Rattle.tq_model.specs.declared.request.Request.{Request};
 ghost use Rattle.tq_model.specs.declared.request.Request.TheVariants as requests;
-ghost use Rattle.tq_model.specs.Faulty.{down_answer};
-ghost use Rattle.tq_run.specs.Standing.{IsSound, next_of, IsHeld, HasTurned, IsTurning};
+ghost use Rattle.tq_model.specs.MachineWithFaults.{down_answer};
+ghost use Rattle.tq_run.specs.Standing.{IsWellFormed, next_of, ReadMatches, HasTurned, IsTurning};
 
 use crate::devices::readiness;
 use crate::manager::boot;
 use crate::serving::serve;
 use crate::state::State;
-use crate::status::Stop;
+use crate::status::RunEnd;
 use std::alloc::Global;
 use tq_host::Host;
 use tq_model::{Answer, Request};
@@ -30,16 +30,16 @@ fn down_answer(request: &Request) -> Answer
 }
 
 // A boot within a run: what was in memory is gone.
-fn reboot<H: Host>(alloc: Global, host: &mut H, state: &mut State) -> Result<Answer, Stop>
-    requires holds { H.tells.reads → IsHeld state.old ((H.view host.old).reads 0) }
-    ensures sound { OnOk result (IsSound state.new) }
+fn reboot<H: Host>(alloc: Global, host: &mut H, state: &mut State) -> Result<Answer, RunEnd>
+    requires holds { H.tells.reads → ReadMatches state.old ((H.view host.old).reads 0) }
+    ensures sound { OnOk result (IsWellFormed state.new) }
     ensures next { OnOk result (next_of state.new ≡ 0) }
-    ensures holds { OnOk result (H.tells.reads → IsHeld state.new ((H.view host.new).reads 0)) }
+    ensures holds { OnOk result (H.tells.reads → ReadMatches state.new ((H.view host.new).reads 0)) }
     ensures turned { IfOk result (λ a. TellsAll H.tells → HasTurned state.old state.new requests.Boot a (H.view host.old) (H.view host.new)) }
     ensures stop { TellsAll H.tells → IsTurning state.old requests.Boot (H.view host.old) (H.view host.new) }
     ensures later { (H.view host.old).faults ≤ (H.view host.new).faults }
     ensures rest { KeepsRest 0 (H.view host.old) (H.view host.new) }
-    ensures only { IfErr result (λ e. e ≡ Stop.Memory) }
+    ensures only { IfErr result (λ e. e ≡ RunEnd.Memory) }
 {
     match boot(alloc, host) {
         Ok(manager) => {
@@ -48,15 +48,15 @@ fn reboot<H: Host>(alloc: Global, host: &mut H, state: &mut State) -> Result<Ans
             Ok(answer)
         }
         Err(stop) => match stop {
-            Stop::Damaged => {
+            RunEnd::Damaged => {
                 *state = State::Down;
                 Ok(Answer::Damaged(0))
             }
-            Stop::Device => {
+            RunEnd::Device => {
                 *state = State::Down;
                 Ok(Answer::SystemError)
             }
-            _ => Err(Stop::Memory),
+            _ => Err(RunEnd::Memory),
         },
     }
 }
@@ -67,19 +67,19 @@ fn serve_standing<H: Host>(
     host: &mut H,
     state: &mut State,
     request: Request,
-) -> Result<Answer, Stop>
+) -> Result<Answer, RunEnd>
     requires boot { request ≢ Request.Boot }
-    requires sound { IsSound state.old }
+    requires sound { IsWellFormed state.old }
     requires next { next_of state.old < 4294967295 }
-    requires holds { H.tells.reads → IsHeld state.old ((H.view host.old).reads 0) }
-    ensures sound { OnOk result (IsSound state.new) }
+    requires holds { H.tells.reads → ReadMatches state.old ((H.view host.old).reads 0) }
+    ensures sound { OnOk result (IsWellFormed state.new) }
     ensures next { OnOk result (next_of state.new ≤ next_of state.old + 1) }
-    ensures holds { OnOk result (H.tells.reads → IsHeld state.new ((H.view host.new).reads 0)) }
+    ensures holds { OnOk result (H.tells.reads → ReadMatches state.new ((H.view host.new).reads 0)) }
     ensures turned { IfOk result (λ a. TellsAll H.tells → HasTurned state.old state.new request a (H.view host.old) (H.view host.new)) }
     ensures stop { TellsAll H.tells → IsTurning state.old request (H.view host.old) (H.view host.new) }
     ensures later { (H.view host.old).faults ≤ (H.view host.new).faults }
     ensures rest { KeepsRest 0 (H.view host.old) (H.view host.new) }
-    ensures only { IfErr result (λ e. e ≡ Stop.Memory) }
+    ensures only { IfErr result (λ e. e ≡ RunEnd.Memory) }
 {
     let served = match state {
         State::Up(manager) => serve(alloc, host, manager, request),
@@ -87,11 +87,11 @@ fn serve_standing<H: Host>(
     };
     match served {
         Ok(answer) => Ok(answer),
-        Err(Stop::Device) => {
+        Err(RunEnd::Device) => {
             *state = State::Down;
             Ok(Answer::SystemError)
         }
-        Err(_) => Err(Stop::Memory),
+        Err(_) => Err(RunEnd::Memory),
     }
 }
 
@@ -102,18 +102,18 @@ pub fn respond<H: Host>(
     host: &mut H,
     state: &mut State,
     request: Request,
-) -> Result<Answer, Stop>
-    requires sound { IsSound state.old }
+) -> Result<Answer, RunEnd>
+    requires sound { IsWellFormed state.old }
     requires next { next_of state.old < 4294967295 }
-    requires holds { H.tells.reads → IsHeld state.old ((H.view host.old).reads 0) }
-    ensures sound { OnOk result (IsSound state.new) }
+    requires holds { H.tells.reads → ReadMatches state.old ((H.view host.old).reads 0) }
+    ensures sound { OnOk result (IsWellFormed state.new) }
     ensures next { OnOk result (next_of state.new ≤ next_of state.old + 1) }
-    ensures holds { OnOk result (H.tells.reads → IsHeld state.new ((H.view host.new).reads 0)) }
+    ensures holds { OnOk result (H.tells.reads → ReadMatches state.new ((H.view host.new).reads 0)) }
     ensures turned { IfOk result (λ a. TellsAll H.tells → HasTurned state.old state.new request a (H.view host.old) (H.view host.new)) }
     ensures stop { TellsAll H.tells → IsTurning state.old request (H.view host.old) (H.view host.new) }
     ensures later { (H.view host.old).faults ≤ (H.view host.new).faults }
     ensures rest { KeepsRest 0 (H.view host.old) (H.view host.new) }
-    ensures only { IfErr result (λ e. e ≡ Stop.Memory) }
+    ensures only { IfErr result (λ e. e ≡ RunEnd.Memory) }
 {
     if let Request::Boot = request {
         return reboot(alloc, host, state);

@@ -2,12 +2,12 @@ ghost use Rattle.std.specs.Prelude.{◌≡◌, ◌≢◌, ◌⊎◌, ◌<◌, �
 ghost use Rattle.tq_host.specs.Calls.{HasCauseOf, Rose};
 ghost use Rattle.tq_host.specs.View.{TellsAll, Stamp, IsSettled};
 ghost use Rattle.tq_model.specs.Step.{can_boot};
-ghost use Rattle.tq_model.specs.Faulty.{Failures, rose_at};
+ghost use Rattle.tq_model.specs.MachineWithFaults.{Failures, rose_at};
 ghost use Rattle.tq_model.specs.declared.request.Request.{Request};
 ghost use Rattle.tq_model.specs.declared.request.Request.TheVariants as requests;
 ghost use Rattle.tq_run.specs.Stops.{IsCrashSafe};
 ghost use Rattle.tq_run.specs.Turns.{Origin, origin_of, none_failed, RunsOver};
-ghost use Rattle.tq_run.specs.Standing.{IsSound, next_of, IsHeld, HasReached, HasRun, HasStarted};
+ghost use Rattle.tq_run.specs.Standing.{IsWellFormed, next_of, ReadMatches, HasReached, HasRun, HasStarted};
 ghost use Rattle.tq_model.specs.Site.{Site};
 ghost use Rattle.tq_model.specs.Grammar.{script_requests};
 ghost use Rattle.tq_model.specs.Reading.{site_found};
@@ -23,7 +23,7 @@ use crate::manager::boot;
 use crate::script::read_script;
 use crate::serving::{give_answer, serve_lines};
 use crate::state::State;
-use crate::status::{Status, Stop};
+use crate::status::{Status, RunEnd};
 use crate::words::device_path;
 use std::alloc::Global;
 use tq_host::Host;
@@ -37,66 +37,66 @@ fn answer_script<H: Host>(
     host: &mut H,
     state: &mut State,
     limit: u64,
-) -> Result<(), Stop>
+) -> Result<(), RunEnd>
     requires limit { 0 < limit }
     requires most { limit ≤ 4294967296 }
-    requires sound { IsSound state.old }
+    requires sound { IsWellFormed state.old }
     requires first { next_of state.old ≡ 0 }
-    requires holds { H.tells.reads → IsHeld state.old ((H.view host.old).reads 0) }
+    requires holds { H.tells.reads → ReadMatches state.old ((H.view host.old).reads 0) }
     ensures left { OnOk result (H.tells.script → (H.view host.new).streams.script ≡ []) }
     ensures reached { OnOk result (TellsAll H.tells → (o : Origin) (found : Site) (failed : Failures) (first : Request)
         → HasReached o found failed (first ∷ []) state.old (H.view host.old) → HasRun o found failed (first ∷ script_requests (H.view host.old).streams.script) state.new (H.view host.old) (H.view host.new)) }
     ensures stop { TellsAll H.tells → (o : Origin) (found : Site) (failed : Failures) (first : Request)
         → HasReached o found failed (first ∷ []) state.old (H.view host.old) → RunsOver o found failed (first ∷ script_requests (H.view host.old).streams.script) (H.view host.old) (H.view host.new) }
     ensures told { H.tells.output → TellsMore (H.view host.old) (H.view host.new) }
-    ensures much { result ≡ Err Stop.TooMuchInput → H.tells.output → (H.view host.new).streams.taken ≡ (H.view host.old).streams.taken + limit }
-    ensures less { (result ≢ Err Stop.TooMuchInput) → (result ≢ Err Stop.Memory) → H.tells.output → (H.view host.new).streams.taken < (H.view host.old).streams.taken + limit }
+    ensures much { result ≡ Err RunEnd.TooMuchInput → H.tells.output → (H.view host.new).streams.taken ≡ (H.view host.old).streams.taken + limit }
+    ensures less { (result ≢ Err RunEnd.TooMuchInput) → (result ≢ Err RunEnd.Memory) → H.tells.output → (H.view host.new).streams.taken < (H.view host.old).streams.taken + limit }
     ensures most { H.tells.output → (H.view host.new).streams.taken ≤ (H.view host.old).streams.taken + limit }
     ensures later { (H.view host.old).faults ≤ (H.view host.new).faults }
     ensures counts { HasRunCounts result (H.view host.old) (H.view host.new) }
-    ensures lines { (result ≢ Err Stop.Damaged) × (result ≢ Err Stop.Device) }
+    ensures lines { (result ≢ Err RunEnd.Damaged) × (result ≢ Err RunEnd.Device) }
 {
     let script = read_script(alloc, host, limit)?;
     serve_lines(alloc, host, state, &script)
 }
 
 // Line 0: a boot of what device 0 stands for.
-fn begin<H: Host>(alloc: Global, path: &str, host: &mut H) -> Result<State, Stop>
-    ensures sound { IfOk result IsSound }
+fn begin<H: Host>(alloc: Global, path: &str, host: &mut H) -> Result<State, RunEnd>
+    ensures sound { IfOk result IsWellFormed }
     ensures first { IfOk result (λ state. next_of state ≡ 0) }
-    ensures holds { IfOk result (λ state. H.tells.reads → IsHeld state ((H.view host.new).reads 0)) }
+    ensures holds { IfOk result (λ state. H.tells.reads → ReadMatches state ((H.view host.new).reads 0)) }
     ensures reached { IfOk result (λ state. TellsAll H.tells → (found : Site) → site_found 1 (H.view host.old).reads ≡ Some found → HasStarted found state (H.view host.old) (H.view host.new)) }
     ensures stop { TellsAll H.tells → IsSettled 0 (H.view host.old) → (found : Site) → site_found 1 (H.view host.old).reads ≡ Some found → can_boot found ≡ true
         → RunsOver (origin_of (H.view host.old)) found none_failed (requests.Boot ∷ []) (H.view host.old) (H.view host.new) }
-    ensures damaged { result ≡ Err Stop.Damaged → H.tells.reads → is_bootable (site_found 1 (H.view host.old).reads) ≡ false }
-    ensures untouched { result ≡ Err Stop.Damaged → IsUntouched (H.view host.old) (H.view host.new) }
-    ensures bootable { (result ≢ Err Stop.Damaged) → (result ≢ Err Stop.Device) → (result ≢ Err Stop.Memory) → H.tells.reads → is_bootable (site_found 1 (H.view host.old).reads) ≡ true }
+    ensures damaged { result ≡ Err RunEnd.Damaged → H.tells.reads → is_bootable (site_found 1 (H.view host.old).reads) ≡ false }
+    ensures untouched { result ≡ Err RunEnd.Damaged → IsUntouched (H.view host.old) (H.view host.new) }
+    ensures bootable { (result ≢ Err RunEnd.Damaged) → (result ≢ Err RunEnd.Device) → (result ≢ Err RunEnd.Memory) → H.tells.reads → is_bootable (site_found 1 (H.view host.old).reads) ≡ true }
     ensures told { H.tells.output → TellsMore (H.view host.old) (H.view host.new) }
     ensures begun { OnOk result (H.tells.output → HasBegun (H.view host.old) (H.view host.new)) }
-    ensures calm { OnErr result ((result ≢ Err Stop.Device) → H.tells.output → (added : List Stamp) → (H.view host.new).streams.stamps ≡ (H.view host.old).streams.stamps ++ added → rose_at (trace_of (H.view host.old) (H.view host.new) added) 0 ≡ false) }
-    ensures silent { result ≡ Err Stop.Device → (H.view host.new).streams.output ≡ (H.view host.old).streams.output }
+    ensures calm { OnErr result ((result ≢ Err RunEnd.Device) → H.tells.output → (added : List Stamp) → (H.view host.new).streams.stamps ≡ (H.view host.old).streams.stamps ++ added → rose_at (trace_of (H.view host.old) (H.view host.new) added) 0 ≡ false) }
+    ensures silent { result ≡ Err RunEnd.Device → (H.view host.new).streams.output ≡ (H.view host.old).streams.output }
     ensures input { KeepsInput (H.view host.old) (H.view host.new) }
     ensures counts { HasCounts result (H.view host.old) (H.view host.new) }
-    ensures four { IfErr result (λ e. (e ≢ Stop.Damaged) → (e ≢ Stop.Device) → (e ≢ Stop.Memory) → e ≡ Stop.Output) }
+    ensures four { IfErr result (λ e. (e ≢ RunEnd.Damaged) → (e ≢ RunEnd.Device) → (e ≢ RunEnd.Memory) → e ≡ RunEnd.Output) }
 {
-    host.attach(0, path).map_err(|_| Stop::Device)?;
+    host.attach(0, path).map_err(|_| RunEnd::Device)?;
     let manager = boot(alloc, host)?;
     give_answer(alloc, host, 0, &readiness(&manager))?;
     Ok(State::Up(manager))
 }
 
 // A run over one device: a boot, which is line 0, and the lines of the script, of which at most `limit` bytes are read.
-fn attend<H: Host>(alloc: Global, path: &str, host: &mut H, limit: u64) -> Result<(), Stop>
+fn attend<H: Host>(alloc: Global, path: &str, host: &mut H, limit: u64) -> Result<(), RunEnd>
     requires some { 0 < limit }
     requires most { limit ≤ 4294967296 }
     ensures done { OnOk result (TellsAll H.tells → (found : Site) → site_found 1 (H.view host.old).reads ≡ Some found → IsDone (H.view host.old) (H.view host.new) found) }
-    ensures damaged { result ≡ Err Stop.Damaged → H.tells.reads → is_bootable (site_found 1 (H.view host.old).reads) ≡ false }
-    ensures untouched { result ≡ Err Stop.Damaged → IsUntouched (H.view host.old) (H.view host.new) }
-    ensures bootable { (result ≢ Err Stop.Damaged) → (result ≢ Err Stop.Device) → (result ≢ Err Stop.Memory) → H.tells.reads → is_bootable (site_found 1 (H.view host.old).reads) ≡ true }
-    ensures line_0 { H.tells.output → FailsInLine0 (result ≡ Err Stop.Device) (H.view host.old) (H.view host.new) }
-    ensures silent { result ≡ Err Stop.Device → (H.view host.new).streams.output ≡ (H.view host.old).streams.output }
-    ensures much { result ≡ Err Stop.TooMuchInput → H.tells.output → (H.view host.new).streams.taken ≡ (H.view host.old).streams.taken + limit }
-    ensures less { (result ≢ Err Stop.TooMuchInput) → (result ≢ Err Stop.Memory) → H.tells.output → (H.view host.new).streams.taken < (H.view host.old).streams.taken + limit }
+    ensures damaged { result ≡ Err RunEnd.Damaged → H.tells.reads → is_bootable (site_found 1 (H.view host.old).reads) ≡ false }
+    ensures untouched { result ≡ Err RunEnd.Damaged → IsUntouched (H.view host.old) (H.view host.new) }
+    ensures bootable { (result ≢ Err RunEnd.Damaged) → (result ≢ Err RunEnd.Device) → (result ≢ Err RunEnd.Memory) → H.tells.reads → is_bootable (site_found 1 (H.view host.old).reads) ≡ true }
+    ensures line_0 { H.tells.output → FailsInLine0 (result ≡ Err RunEnd.Device) (H.view host.old) (H.view host.new) }
+    ensures silent { result ≡ Err RunEnd.Device → (H.view host.new).streams.output ≡ (H.view host.old).streams.output }
+    ensures much { result ≡ Err RunEnd.TooMuchInput → H.tells.output → (H.view host.new).streams.taken ≡ (H.view host.old).streams.taken + limit }
+    ensures less { (result ≢ Err RunEnd.TooMuchInput) → (result ≢ Err RunEnd.Memory) → H.tells.output → (H.view host.new).streams.taken < (H.view host.old).streams.taken + limit }
     ensures most { H.tells.output → (H.view host.new).streams.taken ≤ (H.view host.old).streams.taken + limit }
     ensures stop { TellsAll H.tells → IsSettled 0 (H.view host.old) → (found : Site) → site_found 1 (H.view host.old).reads ≡ Some found → can_boot found ≡ true
         → RunsOver (origin_of (H.view host.old)) found none_failed (requests.Boot ∷ script_requests (H.view host.old).streams.script) (H.view host.old) (H.view host.new) }
@@ -108,17 +108,17 @@ fn attend<H: Host>(alloc: Global, path: &str, host: &mut H, limit: u64) -> Resul
 }
 
 // The status of an ending.
-fn status_of(ending: Result<(), Stop>) -> Status
+fn status_of(ending: Result<(), RunEnd>) -> Status
     ensures { result ≡ status_for ending }
 {
     match ending {
         Ok(()) => Status::Done,
-        Err(Stop::Damaged) => Status::Damaged(0),
-        Err(Stop::Memory) => Status::NoMemory,
-        Err(Stop::Input) => Status::ReadFault,
-        Err(Stop::Output) => Status::WriteFault,
-        Err(Stop::Device) => Status::DeviceFault,
-        Err(Stop::TooMuchInput) => Status::TooMuchInput,
+        Err(RunEnd::Damaged) => Status::Damaged(0),
+        Err(RunEnd::Memory) => Status::NoMemory,
+        Err(RunEnd::Input) => Status::ReadFault,
+        Err(RunEnd::Output) => Status::WriteFault,
+        Err(RunEnd::Device) => Status::DeviceFault,
+        Err(RunEnd::TooMuchInput) => Status::TooMuchInput,
     }
 }
 

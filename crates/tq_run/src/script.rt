@@ -4,7 +4,7 @@ ghost use Rattle.tq_run.specs.Counts.{HasCounts};
 ghost use Rattle.tq_run.specs.Stops.{HasNoNewImage, IsWaiting};
 ghost use Rattle.tq_run.specs.Input.{IsRead, TakesOnly, IsTakenSoFar};
 
-use crate::status::Stop;
+use crate::status::RunEnd;
 use std::alloc::Global;
 use tq_host::Host;
 
@@ -12,18 +12,18 @@ use tq_host::Host;
 const BUFFER: usize = 4096;
 
 // Takes the next bytes of the script, at most `room` of them, and adds them; 0 at the script's end.
-fn take_some<H: Host>(host: &mut H, script: &mut Vec<u8>, room: u64) -> Result<usize, Stop>
+fn take_some<H: Host>(host: &mut H, script: &mut Vec<u8>, room: u64) -> Result<usize, RunEnd>
     requires { 0 < room }
     ensures taken { IfOk result (λ n. IsTakenSoFar H.tells n script.old.items script.new.items (H.view host.old) (H.view host.new)) }
     ensures room { IfOk result (λ n. n ≤ room) }
     ensures longer { IfOk result (λ n. length script.new.items ≡ length script.old.items + n) }
-    ensures refused { result ≡ Err Stop.Input → (H.view host.new).streams.taken ≡ (H.view host.old).streams.taken }
+    ensures refused { result ≡ Err RunEnd.Input → (H.view host.new).streams.taken ≡ (H.view host.old).streams.taken }
     ensures still { TakesOnly (H.view host.old) (H.view host.new) }
     ensures waits { Ran (IsWaiting (H.view host.old)) (H.view host.old) (H.view host.new) }
     ensures images { HasNoNewImage (H.view host.old) (H.view host.new) }
     ensures counts { HasCounts result (H.view host.old) (H.view host.new) }
-    ensures two { IfErr result (λ e. (e ≢ Stop.Memory) → e ≡ Stop.Input) }
-    ensures memory { result ≡ Err Stop.Memory → H.tells.output → (n : ℕ) × (n ≤ room) × ((H.view host.new).streams.taken ≡ (H.view host.old).streams.taken + n) }
+    ensures two { IfErr result (λ e. (e ≢ RunEnd.Memory) → e ≡ RunEnd.Input) }
+    ensures memory { result ≡ Err RunEnd.Memory → H.tells.output → (n : ℕ) × (n ≤ room) × ((H.view host.new).streams.taken ≡ (H.view host.old).streams.taken + n) }
 {
     let mut buffer = [0u8; BUFFER];
     let size = if room < BUFFER as u64 {
@@ -31,15 +31,15 @@ fn take_some<H: Host>(host: &mut H, script: &mut Vec<u8>, room: u64) -> Result<u
     } else {
         BUFFER
     };
-    let n = host.take(&mut buffer[..size]).map_err(|_| Stop::Input)?;
+    let n = host.take(&mut buffer[..size]).map_err(|_| RunEnd::Input)?;
     script
         .extend_from_slice(&buffer[..n])
-        .map_err(|_| Stop::Memory)?;
+        .map_err(|_| RunEnd::Memory)?;
     Ok(n)
 }
 
 /// Takes the script to its end, but no more than `limit` bytes.
-pub fn read_script<H: Host>(alloc: Global, host: &mut H, limit: u64) -> Result<Vec<u8>, Stop>
+pub fn read_script<H: Host>(alloc: Global, host: &mut H, limit: u64) -> Result<Vec<u8>, RunEnd>
     requires { 0 < limit }
     ensures read { IfOk result (λ script. H.tells.script → IsRead script.items (H.view host.old).streams (H.view host.new).streams) }
     ensures short { IfOk result (λ script. length script.items < limit) }
@@ -47,11 +47,11 @@ pub fn read_script<H: Host>(alloc: Global, host: &mut H, limit: u64) -> Result<V
     ensures waits { Ran (IsWaiting (H.view host.old)) (H.view host.old) (H.view host.new) }
     ensures images { HasNoNewImage (H.view host.old) (H.view host.new) }
     ensures counts { HasCounts result (H.view host.old) (H.view host.new) }
-    ensures much { result ≡ Err Stop.TooMuchInput → H.tells.output → (H.view host.new).streams.taken ≡ (H.view host.old).streams.taken + limit }
+    ensures much { result ≡ Err RunEnd.TooMuchInput → H.tells.output → (H.view host.new).streams.taken ≡ (H.view host.old).streams.taken + limit }
     ensures less { OnOk result (H.tells.output → (H.view host.new).streams.taken < (H.view host.old).streams.taken + limit) }
-    ensures refused { result ≡ Err Stop.Input → H.tells.output → (H.view host.new).streams.taken < (H.view host.old).streams.taken + limit }
+    ensures refused { result ≡ Err RunEnd.Input → H.tells.output → (H.view host.new).streams.taken < (H.view host.old).streams.taken + limit }
     ensures most { H.tells.output → (H.view host.new).streams.taken ≤ (H.view host.old).streams.taken + limit }
-    ensures three { IfErr result (λ e. (e ≢ Stop.Memory) → (e ≢ Stop.Input) → e ≡ Stop.TooMuchInput) }
+    ensures three { IfErr result (λ e. (e ≢ RunEnd.Memory) → (e ≢ RunEnd.Input) → e ≡ RunEnd.TooMuchInput) }
 {
     let mut script = Vec::new(alloc);
     let mut left = limit;
@@ -62,5 +62,5 @@ pub fn read_script<H: Host>(alloc: Global, host: &mut H, limit: u64) -> Result<V
         }
         left -= n as u64;
     }
-    Err(Stop::TooMuchInput)
+    Err(RunEnd::TooMuchInput)
 }

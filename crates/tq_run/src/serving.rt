@@ -4,16 +4,16 @@ ghost use Rattle.tq_host.specs.Calls.{IsGiven, IsGiving};
 ghost use Rattle.tq_host.specs.Within.{KeepsRest, Within, Ran};
 ghost use Rattle.tq_model.specs.declared.request.Request.{Request};
 ghost use Rattle.tq_model.specs.declared.request.CallRequest.{CallRequest};
-ghost use Rattle.tq_model.specs.Faulty.{Failures};
+ghost use Rattle.tq_model.specs.MachineWithFaults.{Failures};
 ghost use Rattle.tq_model.specs.Step.{step};
 ghost use Rattle.tq_model.specs.Text.{line_text};
 ghost use Rattle.tq_model.specs.Grammar.{line_request, script_requests};
 ghost use Rattle.tq_device.specs.Content.{IsAnyStep};
 ghost use Rattle.tq_run.specs.Counts.{HasCounts, HasRunCounts};
-ghost use Rattle.tq_run.specs.Stops.{AreOn, HasNoNewImage, IsEither};
+ghost use Rattle.tq_run.specs.Stops.{ImagesMatch, HasNoNewImage, IsEither};
 ghost use Rattle.tq_run.specs.Turns.{Origin, RunsOver};
-ghost use Rattle.tq_run.specs.Standing.{IsSound, next_of, IsHeld, HasReached, HasRun};
-ghost use Rattle.tq_run.specs.Manager.{site_of, IsOn, IsFit};
+ghost use Rattle.tq_run.specs.Standing.{IsWellFormed, next_of, ReadMatches, HasReached, HasRun};
+ghost use Rattle.tq_run.specs.Manager.{site_of, ImageMatches, IsFit};
 ghost use Rattle.tq_run.specs.Output.{TellsMore, KeepsInput};
 ghost use Rattle.tq_model.specs.Site.{Site};
 
@@ -23,7 +23,7 @@ use crate::manager::Manager;
 use crate::responding::respond;
 use crate::spaces::serve_space;
 use crate::state::State;
-use crate::status::Stop;
+use crate::status::RunEnd;
 use std::alloc::Global;
 use tq_host::Host;
 use tq_model::{Answer, Request};
@@ -35,7 +35,7 @@ pub fn give_answer<H: Host>(
     host: &mut H,
     line: u64,
     answer: &Answer,
-) -> Result<(), Stop>
+) -> Result<(), RunEnd>
     ensures gave { OnOk result (H.tells.output → IsGiven (length (line_text line answer.now)) (line_text line answer.now) (H.view host.old) (H.view host.new)) }
     ensures some { H.tells.output → (k : ℕ) × IsGiven k (line_text line answer.now) (H.view host.old) (H.view host.new) }
     ensures input { KeepsInput (H.view host.old) (H.view host.new) }
@@ -44,10 +44,10 @@ pub fn give_answer<H: Host>(
     ensures gives { Ran (IsGiving (line_text line answer.now) (H.view host.old) (H.view host.new)) (H.view host.old) (H.view host.new) }
     ensures images { HasNoNewImage (H.view host.old) (H.view host.new) }
     ensures counts { HasCounts result (H.view host.old) (H.view host.new) }
-    ensures two { IfErr result (λ e. (e ≢ Stop.Memory) → e ≡ Stop.Output) }
+    ensures two { IfErr result (λ e. (e ≢ RunEnd.Memory) → e ≡ RunEnd.Output) }
 {
-    let text = tq_print::answer(alloc, line, answer).map_err(|_| Stop::Memory)?;
-    host.give(&text).map_err(|_| Stop::Output)
+    let text = tq_print::answer(alloc, line, answer).map_err(|_| RunEnd::Memory)?;
+    host.give(&text).map_err(|_| RunEnd::Output)
 }
 
 // Does what a line asks for, but for a call.
@@ -56,21 +56,21 @@ fn serve_other<H: Host>(
     host: &mut H,
     manager: &mut Manager,
     request: &Request,
-) -> Result<Answer, Stop>
+) -> Result<Answer, RunEnd>
     requires boot { request.now ≢ Request.Boot }
     requires other { (call : CallRequest) → request.now ≢ Request.Call call }
     requires fit { IsFit manager.old }
-    requires holds { H.tells.reads → IsOn manager.old ((H.view host.old).reads 0) }
+    requires holds { H.tells.reads → ImageMatches manager.old ((H.view host.old).reads 0) }
     ensures answer { IfOk result (λ a. a ≡ (step (site_of manager.old) request.now).answer) }
     ensures site { OnOk result (site_of manager.new ≡ (step (site_of manager.old) request.now).site) }
     ensures next { OnOk result (manager.new.next ≤ manager.old.next + 1) }
     ensures fit { OnOk result (IsFit manager.new) }
-    ensures holds { OnOk result (H.tells.reads → IsOn manager.new ((H.view host.new).reads 0)) }
-    ensures stop { AreOn manager.old (H.view host.old) → Within 0 IsAnyStep (IsEither (site_of manager.old) (step (site_of manager.old) request.now).site) (H.view host.old) (H.view host.new) }
-    ensures images { OnOk result (H.tells.reads → AreOn manager.old (H.view host.old) → AreOn manager.new (H.view host.new)) }
+    ensures holds { OnOk result (H.tells.reads → ImageMatches manager.new ((H.view host.new).reads 0)) }
+    ensures stop { ImagesMatch manager.old (H.view host.old) → Within 0 IsAnyStep (IsEither (site_of manager.old) (step (site_of manager.old) request.now).site) (H.view host.old) (H.view host.new) }
+    ensures images { OnOk result (H.tells.reads → ImagesMatch manager.old (H.view host.old) → ImagesMatch manager.new (H.view host.new)) }
     ensures counts { HasCounts result (H.view host.old) (H.view host.new) }
     ensures rest { KeepsRest 0 (H.view host.old) (H.view host.new) }
-    ensures two { IfErr result (λ e. (e ≢ Stop.Memory) → e ≡ Stop.Device) }
+    ensures two { IfErr result (λ e. (e ≢ RunEnd.Memory) → e ≡ RunEnd.Device) }
 {
     match request {
         Request::Nothing => Ok(Answer::Done),
@@ -88,21 +88,21 @@ pub fn serve<H: Host>(
     host: &mut H,
     manager: &mut Manager,
     request: Request,
-) -> Result<Answer, Stop>
+) -> Result<Answer, RunEnd>
     requires boot { request ≢ Request.Boot }
     requires fit { IsFit manager.old }
     requires next { manager.old.next < 4294967295 }
-    requires holds { H.tells.reads → IsOn manager.old ((H.view host.old).reads 0) }
+    requires holds { H.tells.reads → ImageMatches manager.old ((H.view host.old).reads 0) }
     ensures answer { IfOk result (λ a. a ≡ (step (site_of manager.old) request).answer) }
     ensures site { OnOk result (site_of manager.new ≡ (step (site_of manager.old) request).site) }
     ensures next { OnOk result (manager.new.next ≤ manager.old.next + 1) }
     ensures fit { OnOk result (IsFit manager.new) }
-    ensures holds { OnOk result (H.tells.reads → IsOn manager.new ((H.view host.new).reads 0)) }
-    ensures stop { H.tells.reads → AreOn manager.old (H.view host.old) → Within 0 IsAnyStep (IsEither (site_of manager.old) (step (site_of manager.old) request).site) (H.view host.old) (H.view host.new) }
-    ensures images { OnOk result (H.tells.reads → AreOn manager.old (H.view host.old) → AreOn manager.new (H.view host.new)) }
+    ensures holds { OnOk result (H.tells.reads → ImageMatches manager.new ((H.view host.new).reads 0)) }
+    ensures stop { H.tells.reads → ImagesMatch manager.old (H.view host.old) → Within 0 IsAnyStep (IsEither (site_of manager.old) (step (site_of manager.old) request).site) (H.view host.old) (H.view host.new) }
+    ensures images { OnOk result (H.tells.reads → ImagesMatch manager.old (H.view host.old) → ImagesMatch manager.new (H.view host.new)) }
     ensures counts { HasCounts result (H.view host.old) (H.view host.new) }
     ensures rest { KeepsRest 0 (H.view host.old) (H.view host.new) }
-    ensures two { IfErr result (λ e. (e ≢ Stop.Memory) → e ≡ Stop.Device) }
+    ensures two { IfErr result (λ e. (e ≢ RunEnd.Memory) → e ≡ RunEnd.Device) }
 {
     if let Request::Call(call) = request {
         return serve_call(alloc, host, manager, call);
@@ -117,13 +117,13 @@ fn serve_line<H: Host>(
     state: &mut State,
     number: u64,
     line: &[u8],
-) -> Result<(), Stop>
-    requires sound { IsSound state.old }
+) -> Result<(), RunEnd>
+    requires sound { IsWellFormed state.old }
     requires next { next_of state.old < 4294967295 }
-    requires holds { H.tells.reads → IsHeld state.old ((H.view host.old).reads 0) }
-    ensures sound { OnOk result (IsSound state.new) }
+    requires holds { H.tells.reads → ReadMatches state.old ((H.view host.old).reads 0) }
+    ensures sound { OnOk result (IsWellFormed state.new) }
     ensures next { OnOk result (next_of state.new ≤ next_of state.old + 1) }
-    ensures holds { OnOk result (H.tells.reads → IsHeld state.new ((H.view host.new).reads 0)) }
+    ensures holds { OnOk result (H.tells.reads → ReadMatches state.new ((H.view host.new).reads 0)) }
     ensures reached { OnOk result (TellsAll H.tells → (o : Origin) (found : Site) (failed : Failures) (done : List Request) → number ≡ length done
         → HasReached o found failed done state.old (H.view host.old) → HasRun o found failed (done ++ line_request line.now ∷ []) state.new (H.view host.old) (H.view host.new)) }
     ensures stop { TellsAll H.tells → (o : Origin) (found : Site) (failed : Failures) (done : List Request) → number ≡ length done
@@ -132,9 +132,9 @@ fn serve_line<H: Host>(
     ensures input { KeepsInput (H.view host.old) (H.view host.new) }
     ensures later { (H.view host.old).faults ≤ (H.view host.new).faults }
     ensures counts { HasRunCounts result (H.view host.old) (H.view host.new) }
-    ensures two { IfErr result (λ e. (e ≢ Stop.Memory) → e ≡ Stop.Output) }
+    ensures two { IfErr result (λ e. (e ≢ RunEnd.Memory) → e ≡ RunEnd.Output) }
 {
-    let request = parse(alloc, line).map_err(|_| Stop::Memory)?;
+    let request = parse(alloc, line).map_err(|_| RunEnd::Memory)?;
     let answer = respond(alloc, host, state, request)?;
     give_answer(alloc, host, number, &answer)
 }
@@ -145,10 +145,10 @@ pub fn serve_lines<H: Host>(
     host: &mut H,
     state: &mut State,
     script: &[u8],
-) -> Result<(), Stop>
-    requires sound { IsSound state.old }
+) -> Result<(), RunEnd>
+    requires sound { IsWellFormed state.old }
     requires numbers { next_of state.old + length script.now ≤ 4294967295 }
-    requires holds { H.tells.reads → IsHeld state.old ((H.view host.old).reads 0) }
+    requires holds { H.tells.reads → ReadMatches state.old ((H.view host.old).reads 0) }
     ensures reached { OnOk result (TellsAll H.tells → (o : Origin) (found : Site) (failed : Failures) (first : Request)
         → HasReached o found failed (first ∷ []) state.old (H.view host.old) → HasRun o found failed (first ∷ script_requests script.now) state.new (H.view host.old) (H.view host.new)) }
     ensures stop { TellsAll H.tells → (o : Origin) (found : Site) (failed : Failures) (first : Request)
@@ -157,7 +157,7 @@ pub fn serve_lines<H: Host>(
     ensures input { KeepsInput (H.view host.old) (H.view host.new) }
     ensures later { (H.view host.old).faults ≤ (H.view host.new).faults }
     ensures counts { HasRunCounts result (H.view host.old) (H.view host.new) }
-    ensures two { IfErr result (λ e. (e ≢ Stop.Memory) → e ≡ Stop.Output) }
+    ensures two { IfErr result (λ e. (e ≢ RunEnd.Memory) → e ≡ RunEnd.Output) }
 {
     let mut rest = script;
     let mut number = 1;

@@ -4,16 +4,16 @@ ghost use Rattle.tq_model.specs.Site.{clusters_for, most_pages, space_named};
 ghost use Rattle.tq_model.specs.Space.{overhead_pages};
 ghost use Rattle.tq_model.specs.Step.{space_step, create_space, create_queue, space_refusal, field_refused, pages_asked, shape_asked, pages_refusal, placing_refusal};
 ghost use Rattle.tq_host.specs.View.{IsSettled};
-ghost use Rattle.tq_device.specs.Content.{IsAnyStep, Stands, entered};
+ghost use Rattle.tq_device.specs.Content.{IsAnyStep, HasContent, entered};
 ghost use Rattle.tq_run.specs.Counts.{HasCounts};
-ghost use Rattle.tq_run.specs.Stops.{AreOn, IsEither};
-ghost use Rattle.tq_run.specs.Manager.{site_of, volume_in, IsOn, IsFit};
+ghost use Rattle.tq_run.specs.Stops.{ImagesMatch, IsEither};
+ghost use Rattle.tq_run.specs.Manager.{site_of, volume_in, ImageMatches, IsFit};
 ghost use Rattle.tq_run.specs.Spaces.{IsShape, IsAdmitted, HasNewSpace, IsBareOrNew};
 
 use crate::devices::{capacity_of, clusters_for, has_space};
 use crate::manager::Manager;
 use crate::queues::create_queue;
-use crate::status::Stop;
+use crate::status::RunEnd;
 use std::alloc::Global;
 use tq_device::{DeviceContent, enter, grow};
 use tq_host::Host;
@@ -162,25 +162,25 @@ fn lay_out<H: Host>(
     content: &DeviceContent,
     name: Name,
     shape: &Shape,
-) -> Result<DeviceContent, Stop>
+) -> Result<DeviceContent, RunEnd>
     requires shape { IsShape shape.now }
     requires bare { content.now.named ≡ None }
     requires ordinals { content.now.next_space < 268435455 }
     requires clusters { 4 + clusters_for shape.now.pages ≤ content.now.clusters }
-    requires holds { H.tells.reads → Stands content.now ((H.view host.old).reads 0) }
+    requires holds { H.tells.reads → HasContent content.now ((H.view host.old).reads 0) }
     ensures entered { IfOk result (λ d. d ≡ entered content.now name shape.now.pages) }
     ensures done { IfOk result (λ d. H.tells.reads → HasNewSpace d shape.now ((H.view host.new).reads 0)) }
     ensures settled { OnOk result (IsSettled 0 (H.view host.new)) }
-    ensures stop { ((c : List ℕ) → (H.view host.old).may_leave 0 c → Stands content.now c)
+    ensures stop { ((c : List ℕ) → (H.view host.old).may_leave 0 c → HasContent content.now c)
         → Within 0 IsAnyStep (IsBareOrNew content.now name shape.now) (H.view host.old) (H.view host.new) }
     ensures counts { HasCounts result (H.view host.old) (H.view host.new) }
     ensures rest { KeepsRest 0 (H.view host.old) (H.view host.new) }
-    ensures only { IfErr result (λ e. e ≡ Stop.Device) }
+    ensures only { IfErr result (λ e. e ≡ RunEnd.Device) }
 {
     let end = HEADER_BYTES + CLUSTER_BYTES * u64::from(clusters_for(shape.pages));
-    grow(host, 0, end).map_err(|_| Stop::Device)?;
-    format(host, 0, shape).map_err(|_| Stop::Device)?;
-    enter(host, 0, content, name, shape.pages).map_err(|_| Stop::Device)
+    grow(host, 0, end).map_err(|_| RunEnd::Device)?;
+    format(host, 0, shape).map_err(|_| RunEnd::Device)?;
+    enter(host, 0, content, name, shape.pages).map_err(|_| RunEnd::Device)
 }
 
 // Makes a space, where nothing refuses it.
@@ -190,20 +190,20 @@ fn make_space<H: Host>(
     manager: &mut Manager,
     content: &DeviceContent,
     creation: &SpaceCreation,
-) -> Result<Answer, Stop>
+) -> Result<Answer, RunEnd>
     requires admitted { IsAdmitted manager.old creation.now content.now }
     requires fit { IsFit manager.old }
-    requires holds { H.tells.reads → IsOn manager.old ((H.view host.old).reads 0) }
+    requires holds { H.tells.reads → ImageMatches manager.old ((H.view host.old).reads 0) }
     ensures answer { IfOk result (λ a. a ≡ (create_space creation.now (site_of manager.old)).answer) }
     ensures site { OnOk result (site_of manager.new ≡ (create_space creation.now (site_of manager.old)).site) }
     ensures next { OnOk result (manager.new.next ≡ manager.old.next) }
     ensures fit { OnOk result (IsFit manager.new) }
-    ensures holds { OnOk result (H.tells.reads → IsOn manager.new ((H.view host.new).reads 0)) }
-    ensures stop { AreOn manager.old (H.view host.old) → Within 0 IsAnyStep (IsEither (site_of manager.old) (create_space creation.now (site_of manager.old)).site) (H.view host.old) (H.view host.new) }
-    ensures images { OnOk result (H.tells.reads → AreOn manager.old (H.view host.old) → AreOn manager.new (H.view host.new)) }
+    ensures holds { OnOk result (H.tells.reads → ImageMatches manager.new ((H.view host.new).reads 0)) }
+    ensures stop { ImagesMatch manager.old (H.view host.old) → Within 0 IsAnyStep (IsEither (site_of manager.old) (create_space creation.now (site_of manager.old)).site) (H.view host.old) (H.view host.new) }
+    ensures images { OnOk result (H.tells.reads → ImagesMatch manager.old (H.view host.old) → ImagesMatch manager.new (H.view host.new)) }
     ensures counts { HasCounts result (H.view host.old) (H.view host.new) }
     ensures rest { KeepsRest 0 (H.view host.old) (H.view host.new) }
-    ensures only { IfErr result (λ e. e ≡ Stop.Device) }
+    ensures only { IfErr result (λ e. e ≡ RunEnd.Device) }
 {
     let shape = shape_of(creation);
     let number = 8 * content.next_space;
@@ -229,19 +229,19 @@ fn create_space<H: Host>(
     host: &mut H,
     manager: &mut Manager,
     creation: &SpaceCreation,
-) -> Result<Answer, Stop>
+) -> Result<Answer, RunEnd>
     requires fit { IsFit manager.old }
-    requires holds { H.tells.reads → IsOn manager.old ((H.view host.old).reads 0) }
+    requires holds { H.tells.reads → ImageMatches manager.old ((H.view host.old).reads 0) }
     ensures answer { IfOk result (λ a. a ≡ (create_space creation.now (site_of manager.old)).answer) }
     ensures site { OnOk result (site_of manager.new ≡ (create_space creation.now (site_of manager.old)).site) }
     ensures next { OnOk result (manager.new.next ≡ manager.old.next) }
     ensures fit { OnOk result (IsFit manager.new) }
-    ensures holds { OnOk result (H.tells.reads → IsOn manager.new ((H.view host.new).reads 0)) }
-    ensures stop { AreOn manager.old (H.view host.old) → Within 0 IsAnyStep (IsEither (site_of manager.old) (create_space creation.now (site_of manager.old)).site) (H.view host.old) (H.view host.new) }
-    ensures images { OnOk result (H.tells.reads → AreOn manager.old (H.view host.old) → AreOn manager.new (H.view host.new)) }
+    ensures holds { OnOk result (H.tells.reads → ImageMatches manager.new ((H.view host.new).reads 0)) }
+    ensures stop { ImagesMatch manager.old (H.view host.old) → Within 0 IsAnyStep (IsEither (site_of manager.old) (create_space creation.now (site_of manager.old)).site) (H.view host.old) (H.view host.new) }
+    ensures images { OnOk result (H.tells.reads → ImagesMatch manager.old (H.view host.old) → ImagesMatch manager.new (H.view host.new)) }
     ensures counts { HasCounts result (H.view host.old) (H.view host.new) }
     ensures rest { KeepsRest 0 (H.view host.old) (H.view host.new) }
-    ensures only { IfErr result (λ e. e ≡ Stop.Device) }
+    ensures only { IfErr result (λ e. e ≡ RunEnd.Device) }
 {
     match admitted(manager, creation) {
         Err(refusal) => Ok(refusal),
@@ -255,19 +255,19 @@ pub fn serve_space<H: Host>(
     host: &mut H,
     manager: &mut Manager,
     request: &SpaceRequest,
-) -> Result<Answer, Stop>
+) -> Result<Answer, RunEnd>
     requires fit { IsFit manager.old }
-    requires holds { H.tells.reads → IsOn manager.old ((H.view host.old).reads 0) }
+    requires holds { H.tells.reads → ImageMatches manager.old ((H.view host.old).reads 0) }
     ensures answer { IfOk result (λ a. a ≡ (space_step (site_of manager.old) request.now).answer) }
     ensures site { OnOk result (site_of manager.new ≡ (space_step (site_of manager.old) request.now).site) }
     ensures next { OnOk result (manager.new.next ≡ manager.old.next) }
     ensures fit { OnOk result (IsFit manager.new) }
-    ensures holds { OnOk result (H.tells.reads → IsOn manager.new ((H.view host.new).reads 0)) }
-    ensures stop { AreOn manager.old (H.view host.old) → Within 0 IsAnyStep (IsEither (site_of manager.old) (space_step (site_of manager.old) request.now).site) (H.view host.old) (H.view host.new) }
-    ensures images { OnOk result (H.tells.reads → AreOn manager.old (H.view host.old) → AreOn manager.new (H.view host.new)) }
+    ensures holds { OnOk result (H.tells.reads → ImageMatches manager.new ((H.view host.new).reads 0)) }
+    ensures stop { ImagesMatch manager.old (H.view host.old) → Within 0 IsAnyStep (IsEither (site_of manager.old) (space_step (site_of manager.old) request.now).site) (H.view host.old) (H.view host.new) }
+    ensures images { OnOk result (H.tells.reads → ImagesMatch manager.old (H.view host.old) → ImagesMatch manager.new (H.view host.new)) }
     ensures counts { HasCounts result (H.view host.old) (H.view host.new) }
     ensures rest { KeepsRest 0 (H.view host.old) (H.view host.new) }
-    ensures two { IfErr result (λ e. (e ≢ Stop.Memory) → e ≡ Stop.Device) }
+    ensures two { IfErr result (λ e. (e ≢ RunEnd.Memory) → e ≡ RunEnd.Device) }
 {
     match request {
         SpaceRequest::Create(creation) => create_space(alloc, host, manager, creation),

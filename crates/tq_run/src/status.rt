@@ -23,7 +23,7 @@ pub enum Status {
 
 // What ends a run before its last line.
 #[derive(Clone, Copy, Debug, PartialEq, Eq)]
-pub enum Stop {
+pub enum RunEnd {
     Damaged,
     Memory,
     Input,

@@ -8,9 +8,9 @@ use Rattle.std.proofs.lemmas.List.Sums.{sum_by-cons, sum_by-insert, sum_by-remov
 use Rattle.tq_types.specs.declared.identifiers.MsgId.{MsgId}
 use Rattle.tq_model.specs.declared.space.Change.{Change}
 use Rattle.tq_model.specs.declared.space.QueueDef.{QueueDef}
-use Rattle.tq_model.specs.Space.{Item, Queue, change_first, has_id, holds_id, with_item, without_item, stands_before}
-use Rattle.tq_model.specs.Moves.{IndexedQueue, the_queue, has_index, on_queue, item_inserted, item_removed, item_replaced, item_with_id, changed_item, indexed_holds, queue_added, queue_dropped, queue_of, comes_before}
-use Rattle.tq_model.specs.Room.{item_pages, queue_pages}
+use Rattle.tq_model.specs.Space.{Entry, Queue, change_first, has_id, holds_id, with_entry, without_entry, stands_before}
+use Rattle.tq_model.specs.Moves.{IndexedQueue, the_queue, has_index, on_queue, entry_inserted, entry_removed, entry_replaced, entry_with_id, after_change, indexed_holds, queue_added, queue_dropped, queue_of, comes_before}
+use Rattle.tq_model.specs.Room.{pages_of_entry, queue_pages}
 use Rattle.tq_space.specs.Plain.{HasNoEntries}
 use Rattle.tq_model.proofs.Places.{list_any-place, find-at, position_or_len-within, map-insert, map-remove}
 use Rattle.tq_space.proofs.Places.{remove-past}
@@ -23,15 +23,15 @@ total-cons : (g : Queue → ℕ) (q : IndexedQueue) (qs : List IndexedQueue) →
 total-cons g q qs = sum_by-cons g q.queue (map the_queue qs)
 
 -- an insert into a queue that is there
-pub total_inserted : (g : Queue → ℕ) (n : ℕ) (item : Item) → ((q : Queue) → g (with_item item q) ≡ g q + n) → (index : ℕ) (qs : List IndexedQueue)
-    → list_any (has_index index) qs ≡ true → total g (item_inserted index item qs) ≡ total g qs + n
+pub total_inserted : (g : Queue → ℕ) (n : ℕ) (item : Entry) → ((q : Queue) → g (with_entry item q) ≡ g q + n) → (index : ℕ) (qs : List IndexedQueue)
+    → list_any (has_index index) qs ≡ true → total g (entry_inserted index item qs) ≡ total g qs + n
 total_inserted g n item more index [] = λ h. cc
 total_inserted g n item more index (q ∷ qs) =
     let before = total-cons g q qs in
     elim (has_index index q) as (λ b. b || list_any (has_index index) qs ≡ true
-    → total g (cond b (record q { queue = with_item item q.queue } ∷ qs) (q ∷ item_inserted index item qs)) ≡ total g (q ∷ qs) + n) [
-      | true ↦ λ h. let after = total-cons g (record q { queue = with_item item q.queue }) qs in let one = more q.queue in omega arith
-      | false ↦ λ h. let after = total-cons g q (item_inserted index item qs) in let rest = total_inserted g n item more index qs h in omega arith
+    → total g (cond b (record q { queue = with_entry item q.queue } ∷ qs) (q ∷ entry_inserted index item qs)) ≡ total g (q ∷ qs) + n) [
+      | true ↦ λ h. let after = total-cons g (record q { queue = with_entry item q.queue }) qs in let one = more q.queue in omega arith
+      | false ↦ λ h. let after = total-cons g q (entry_inserted index item qs) in let rest = total_inserted g n item more index qs h in omega arith
     ]
 
 pub any-find : {X : Type 0} (p : X → Bool) (xs : List X) → list_any p xs ≡ is_some (find p xs)
@@ -43,11 +43,11 @@ no-some None h e = cc
 no-some (Some x) h e = cc
 
 -- nothing has the identifier: nothing goes
-pub removed_nothing : (id : MsgId) (qs : List IndexedQueue) → item_with_id id qs ≡ None → item_removed id qs ≡ qs
+pub removed_nothing : (id : MsgId) (qs : List IndexedQueue) → entry_with_id id qs ≡ None → entry_removed id qs ≡ qs
 removed_nothing id [] = λ h. refl
 removed_nothing id (q ∷ qs) =
-    elim (holds_id id q.queue) as (λ b. b ≡ is_some (find (has_id id) q.queue.items) → cond b (find (has_id id) q.queue.items) (item_with_id id qs) ≡ None
-    → cond b (record q { queue = without_item id q.queue } ∷ qs) (q ∷ item_removed id qs) ≡ q ∷ qs) [
+    elim (holds_id id q.queue) as (λ b. b ≡ is_some (find (has_id id) q.queue.items) → cond b (find (has_id id) q.queue.items) (entry_with_id id qs) ≡ None
+    → cond b (record q { queue = without_entry id q.queue } ∷ qs) (q ∷ entry_removed id qs) ≡ q ∷ qs) [
       | true ↦ λ some h. absurd (no-some (find (has_id id) q.queue.items) some h)
       | false ↦ λ some h. ap (λ (l : List IndexedQueue). q ∷ l) (removed_nothing id qs h)
     ] (any-find (has_id id) q.queue.items)
@@ -60,20 +60,20 @@ found-place p xs x found =
     (below, cc)
 
 -- the entry of the identifier goes
-pub total_removed : (g : Queue → ℕ) (w : Item → ℕ) → ((q : Queue) (at : ℕ) (d : Item) → at < length q.items → g (record q { items = remove q.items at }) + w (get_or q.items at d) ≡ g q)
-    → (id : MsgId) (item : Item) (qs : List IndexedQueue) → item_with_id id qs ≡ Some item → total g (item_removed id qs) + w item ≡ total g qs
+pub total_removed : (g : Queue → ℕ) (w : Entry → ℕ) → ((q : Queue) (at : ℕ) (d : Entry) → at < length q.items → g (record q { items = remove q.items at }) + w (get_or q.items at d) ≡ g q)
+    → (id : MsgId) (item : Entry) (qs : List IndexedQueue) → entry_with_id id qs ≡ Some item → total g (entry_removed id qs) + w item ≡ total g qs
 total_removed g w less id item [] = λ h. cc
 total_removed g w less id item (q ∷ qs) =
     let before = total-cons g q qs in
-    elim (holds_id id q.queue) as (λ b. cond b (find (has_id id) q.queue.items) (item_with_id id qs) ≡ Some item
-    → total g (cond b (record q { queue = without_item id q.queue } ∷ qs) (q ∷ item_removed id qs)) + w item ≡ total g (q ∷ qs)) [
+    elim (holds_id id q.queue) as (λ b. cond b (find (has_id id) q.queue.items) (entry_with_id id qs) ≡ Some item
+    → total g (cond b (record q { queue = without_entry id q.queue } ∷ qs) (q ∷ entry_removed id qs)) + w item ≡ total g (q ∷ qs)) [
       | true ↦ λ h.
           let place = found-place (has_id id) q.queue.items item h in
-          let after = total-cons g (record q { queue = without_item id q.queue }) qs in
+          let after = total-cons g (record q { queue = without_entry id q.queue }) qs in
           let one = less q.queue (position_or_len (has_id id) q.queue.items) item place.0 in
           let this : w (get_or q.queue.items (position_or_len (has_id id) q.queue.items) item) ≡ w item = ap w place.1 in
           omega arith
-      | false ↦ λ h. let after = total-cons g q (item_removed id qs) in let rest = total_removed g w less id item qs h in omega arith
+      | false ↦ λ h. let after = total-cons g q (entry_removed id qs) in let rest = total_removed g w less id item qs h in omega arith
     ]
 
 -- a queue without entries is added
@@ -124,21 +124,21 @@ any_changed p test f same (q ∷ qs) =
       | false ↦ ap (λ (b : Bool). p q || b) (any_changed p test f same qs)
     ]
 
-pub any_removed : (index : ℕ) (id : MsgId) (qs : List IndexedQueue) → list_any (has_index index) (item_removed id qs) ≡ list_any (has_index index) qs
-any_removed index id qs = any_changed (has_index index) (indexed_holds id) (on_queue (without_item id)) (λ q. refl) qs
+pub any_removed : (index : ℕ) (id : MsgId) (qs : List IndexedQueue) → list_any (has_index index) (entry_removed id qs) ≡ list_any (has_index index) qs
+any_removed index id qs = any_changed (has_index index) (indexed_holds id) (on_queue (without_entry id)) (λ q. refl) qs
 
 -- an entry goes and comes again, in a queue that is there
-pub total_replaced : (g : Queue → ℕ) (w : Item → ℕ) → ((item : Item) (q : Queue) → g (with_item item q) ≡ g q + w item)
-    → ((q : Queue) (at : ℕ) (d : Item) → at < length q.items → g (record q { items = remove q.items at }) + w (get_or q.items at d) ≡ g q)
-    → (c : Change) → ((item : Item) → w (changed_item c item) ≡ w item) → (qs : List IndexedQueue) → list_any (has_index c.queue) qs ≡ true
-    → total g (item_replaced c (item_with_id c.id qs) qs) ≡ total g qs
+pub total_replaced : (g : Queue → ℕ) (w : Entry → ℕ) → ((item : Entry) (q : Queue) → g (with_entry item q) ≡ g q + w item)
+    → ((q : Queue) (at : ℕ) (d : Entry) → at < length q.items → g (record q { items = remove q.items at }) + w (get_or q.items at d) ≡ g q)
+    → (c : Change) → ((item : Entry) → w (after_change c item) ≡ w item) → (qs : List IndexedQueue) → list_any (has_index c.queue) qs ≡ true
+    → total g (entry_replaced c (entry_with_id c.id qs) qs) ≡ total g qs
 total_replaced g w more less c same qs there =
-    elim (item_with_id c.id qs) as (λ o. item_with_id c.id qs ≡ o → total g (item_replaced c o qs) ≡ total g qs) [
+    elim (entry_with_id c.id qs) as (λ o. entry_with_id c.id qs ≡ o → total g (entry_replaced c o qs) ≡ total g qs) [
       | None ↦ λ e. refl
       | Some item ↦ λ e.
           let gone = total_removed g w less c.id item qs e in
-          let still : list_any (has_index c.queue) (item_removed c.id qs) ≡ true = any_removed c.queue c.id qs ∙ there in
-          let again = total_inserted g (w (changed_item c item)) (changed_item c item) (more (changed_item c item)) c.queue (item_removed c.id qs) still in
+          let still : list_any (has_index c.queue) (entry_removed c.id qs) ≡ true = any_removed c.queue c.id qs ∙ there in
+          let again = total_inserted g (w (after_change c item)) (after_change c item) (more (after_change c item)) c.queue (entry_removed c.id qs) still in
           let kept = same item in
           omega arith
     ] refl
@@ -148,14 +148,14 @@ total_replaced g w more less c same qs there =
 abbrev pub length_of : Queue → ℕ
 length_of q = length q.items
 
-pub length_more : (item : Item) (q : Queue) → length_of (with_item item q) ≡ length_of q + 1
+pub length_more : (item : Entry) (q : Queue) → length_of (with_entry item q) ≡ length_of q + 1
 length_more item q = length-insert q.items (position_or_len (stands_before q.order item) q.items) item (position_or_len-within (stands_before q.order item) q.items)
 
-pub length_less : (q : Queue) (at : ℕ) (d : Item) → at < length q.items → length_of (record q { items = remove q.items at }) + 1 ≡ length_of q
+pub length_less : (q : Queue) (at : ℕ) (d : Entry) → at < length q.items → length_of (record q { items = remove q.items at }) + 1 ≡ length_of q
 length_less q at d within = length-remove q.items at within
 
-pub pages_more : (item : Item) (q : Queue) → queue_pages (with_item item q) ≡ queue_pages q + item_pages item
-pages_more item q = sum_by-insert item_pages q.items (position_or_len (stands_before q.order item) q.items) item
+pub pages_more : (item : Entry) (q : Queue) → queue_pages (with_entry item q) ≡ queue_pages q + pages_of_entry item
+pages_more item q = sum_by-insert pages_of_entry q.items (position_or_len (stands_before q.order item) q.items) item
 
-pub pages_less : (q : Queue) (at : ℕ) (d : Item) → at < length q.items → queue_pages (record q { items = remove q.items at }) + item_pages (get_or q.items at d) ≡ queue_pages q
-pages_less q at d within = sum_by-remove item_pages q.items at d within
+pub pages_less : (q : Queue) (at : ℕ) (d : Entry) → at < length q.items → queue_pages (record q { items = remove q.items at }) + pages_of_entry (get_or q.items at d) ≡ queue_pages q
+pages_less q at d within = sum_by-remove pages_of_entry q.items at d within

@@ -9,7 +9,7 @@ use Rattle.tq_model.specs.declared.space.QueueDef.{QueueDef}
 use Rattle.tq_model.specs.Space.{Queue, change_first}
 use Rattle.tq_model.specs.Moves.{queue_of, has_index, on_queue, queue_dropped}
 use Rattle.tq_space.specs.declared.shelf.HeldQueue.{HeldQueue}
-use Rattle.tq_space.specs.Slots.{item_at}
+use Rattle.tq_space.specs.Slots.{entry_at}
 use Rattle.tq_space.specs.Plain.{HasNoEntries}
 use Rattle.tq_space.specs.Shelf.{indexed_at, IsListed}
 use Rattle.tq_space.specs.Grown.{HasRoomIn}
@@ -62,14 +62,14 @@ module _ (slots : List (Option Entry)) (queues : List HeldQueue) (listed : IsLis
         let view = map (indexed_at slots) queues in
         let change : Queue → Queue = λ (queue : Queue). queue_of def queue.items in
         map-set (indexed_at slots) queues at q'
-        ∙ (λ i. set view at (record { index = same_index i; queue = queue_of (is_def i) (map (item_at slots) (same_keys i)) }))
+        ∙ (λ i. set view at (record { index = same_index i; queue = queue_of (is_def i) (map (entry_at slots) (same_keys i)) }))
         ∙ (λ i. set view (sym first i) (on_queue change (sym there i)))
         ∙ ap (λ (n : ℕ). set view (position_or_len (has_index index) view) (on_queue change (get_or view n (indexed_at slots d)))) (sym first)
         ∙ sym (change_first-at (has_index index) (on_queue change) (indexed_at slots d) view)
 
   -- ---- the queue goes
 
-  no_keys : (keys : List ℕ) → map (item_at slots) keys ≡ [] → keys ≡ []
+  no_keys : (keys : List ℕ) → map (entry_at slots) keys ≡ [] → keys ≡ []
   no_keys [] h = refl
   no_keys (k ∷ keys) h = cc
 

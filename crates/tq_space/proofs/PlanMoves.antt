@@ -14,12 +14,12 @@ use Rattle.tq_model.specs.declared.calls.EnqueueAsk.{EnqueueAsk}
 use Rattle.tq_model.specs.declared.calls.DequeueAsk.{DequeueAsk}
 use Rattle.tq_model.specs.declared.space.SpaceMove.TheVariants.{Insert, Remove}
 use Rattle.tq_model.specs.declared.record.SpaceRecord.TheVariants.{Added, Gone}
-use Rattle.tq_model.specs.Space.{Item, same_id, has_id}
+use Rattle.tq_model.specs.Space.{Entry, same_id, has_id}
 use Rattle.tq_model.specs.Moves.{IndexedQueue, IndexedSpace, space_of, indexed_holds}
 use Rattle.tq_model.specs.EnqueueStep.{quality, next_id}
 use Rattle.tq_model.specs.SpaceForm.{id_in, plain_entry, move_of, holds_arrival}
 use Rattle.tq_model.specs.Step.{enqueue_call}
-use Rattle.tq_model.specs.Plain.{IsPlainQueue, IsPlainSpace, AllIds, IsOwn}
+use Rattle.tq_model.specs.Plain.{HasOnlySurvivors, KeepsAllAtCrash, AllIds, IsOwn}
 use Rattle.tq_space.specs.declared.plans.Plan.{Plan}
 use Rattle.tq_space.specs.Planned.{IsInsertOf, IsRemovalOf, IsAmong}
 use Rattle.tq_space.specs.NewEntry.{entry_of}
@@ -40,16 +40,16 @@ same_as_itself id =
     λ i. same id.site i && same id.space i && same id.epoch i && same id.number i
 
 -- an entry's identifier is held
-pub among_held : (item : Item) (held : IndexedSpace) → IsAmong item held → list_any (indexed_holds item.letter.id) held.queues ≡ true
+pub among_held : (item : Entry) (held : IndexedSpace) → IsAmong item held → list_any (indexed_holds item.message.id) held.queues ≡ true
 among_held item held among =
-    let id = item.letter.id in
+    let id = item.message.id in
     contained_any (indexed_holds id) held.queues among.queue (contained_any (has_id id) among.queue.queue.items item (same_as_itself id) among.of_queue) among.of_space
 
 -- what holds of each identifier of a space holds of an entry's
-pub among_id : (P : MsgId → Type 0) (item : Item) (held : IndexedSpace) → AllIds P held → IsAmong item held → P item.letter.id
+pub among_id : (P : MsgId → Type 0) (item : Entry) (held : IndexedSpace) → AllIds P held → IsAmong item held → P item.message.id
 among_id P item held all among =
-    let here = All-contains (λ (q : IndexedQueue). All (λ (x : Item). P x.letter.id) q.queue.items) held.queues among.queue all among.of_space in
-    All-contains (λ (x : Item). P x.letter.id) among.queue.queue.items item here among.of_queue
+    let here = All-contains (λ (q : IndexedQueue). All (λ (x : Entry). P x.message.id) q.queue.items) held.queues among.queue all among.of_space in
+    All-contains (λ (x : Entry). P x.message.id) among.queue.queue.items item here among.of_queue
 
 -- ---- plans and records
 
@@ -57,13 +57,13 @@ pub entry_plain : (words : EnqueueWords) (ask : EnqueueAsk) (index : ℕ) (id : 
     → entry_of ask index Persistent id ≡ plain_entry index ask.next id words.body
 entry_plain words ask index id is_call = ap (λ (call : EnqueueCall). entry_of (record ask { call = call }) index Persistent id) is_call
 
-pub insert_recorded : (words : EnqueueWords) (ask : EnqueueAsk) (held : IndexedSpace) (plan : Plan) → ask.call ≡ enqueue_call words 0 → IsPlainSpace held
+pub insert_recorded : (words : EnqueueWords) (ask : EnqueueAsk) (held : IndexedSpace) (plan : Plan) → ask.call ≡ enqueue_call words 0 → KeepsAllAtCrash held
     → (insert : IsInsertOf ask held plan) → plan.moves ≡ move_of held (Added insert.queue.index ask.next words.body) ∷ []
 insert_recorded words ask held plan is_call plain insert =
     let queue = insert.queue in
     let id = next_id (space_of held) ask.next in
     let named = indexed_named ask.call.queue in
-    let of_queue : queue.queue.qos ≡ Persistent = (All-contains IsPlainQueue held.queues queue plain (found_contained named held.queues queue insert.found)).qos in
+    let of_queue : queue.queue.qos ≡ Persistent = (All-contains HasOnlySurvivors held.queues queue plain (found_contained named held.queues queue insert.found)).qos in
     let persistent : quality ask.call.qos queue.queue.qos ≡ Persistent = ap (λ (call : EnqueueCall). quality call.qos queue.queue.qos) is_call ∙ of_queue in
     insert.moves ∙ ap (λ (qos : Qos). Insert (entry_of ask queue.index qos id) ∷ []) persistent
     ∙ ap (λ e. Insert e ∷ []) (entry_plain words ask queue.index id is_call)
@@ -73,9 +73,9 @@ arrival_of id = record { epoch = id.epoch; number = id.number }
 
 pub removal_recorded : (ask : DequeueAsk) (held : IndexedSpace) (plan : Plan) → ask.call.peek ≡ false → IsOwn held
     → (removal : IsRemovalOf ask held plan)
-    → (plan.moves ≡ move_of held (Gone (arrival_of removal.item.letter.id)) ∷ []) × (holds_arrival held (arrival_of removal.item.letter.id) ≡ true)
+    → (plan.moves ≡ move_of held (Gone (arrival_of removal.item.message.id)) ∷ []) × (holds_arrival held (arrival_of removal.item.message.id) ≡ true)
 removal_recorded ask held plan taken own removal =
-    let id = removal.item.letter.id in
+    let id = removal.item.message.id in
     let of_space = among_id (λ id. (id.site ≡ held.site) × (id.space ≡ held.number)) removal.item held own removal.within in
     let same : id ≡ id_in held (arrival_of id) = λ i. record { site = of_space.0 i; space = of_space.1 i; epoch = id.epoch; number = id.number } in (
       removal.moves ∙ ap (λ (peek : Bool). if peek then [] else Remove id ∷ []) taken ∙ (λ i. Remove (same i) ∷ []),

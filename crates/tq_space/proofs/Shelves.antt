@@ -10,10 +10,10 @@ use Rattle.std.proofs.lemmas.List.Sums.{sum-map, sum_by-insert, sum_by-cons, pas
 use Rattle.tq_types.specs.declared.identifiers.MsgId.{MsgId}
 use Rattle.tq_types.specs.declared.messages.Entry.{Entry}
 use Rattle.tq_model.specs.Space.{has_id}
-use Rattle.tq_model.specs.Moves.{item_of, item_inserted, item_removed, item_with_id, has_index, queue_of, queue_added, comes_before}
+use Rattle.tq_model.specs.Moves.{entry_view, entry_inserted, entry_removed, entry_with_id, has_index, queue_of, queue_added, comes_before}
 use Rattle.tq_model.specs.declared.space.QueueDef.{QueueDef}
 use Rattle.tq_space.specs.declared.shelf.HeldQueue.{HeldQueue}
-use Rattle.tq_space.specs.Slots.{slot_at, slot_test, item_at, label_before}
+use Rattle.tq_space.specs.Slots.{slot_at, slot_test, entry_at, label_before}
 use Rattle.tq_space.specs.Plain.{IsPlainEntry}
 use Rattle.tq_space.specs.Shelf.{indexed_at, IsListed}
 use Rattle.tq_space.specs.Grown.{HasRoomIn, IsGrown, AreGrown}
@@ -47,7 +47,7 @@ module _ (slots slots' : List (Option Entry)) (queues : List HeldQueue) (listed 
   pub inserted_listed : IsListed slots' (set queues at q')
   inserted_listed = inserts.listed_new slots slots' queues listed at d within q' key place e others vacant stored keyed_there plain
 
-  pub inserted_seen : map (indexed_at slots') (set queues at q') ≡ item_inserted e.queue (item_of e) (map (indexed_at slots) queues)
+  pub inserted_seen : map (indexed_at slots') (set queues at q') ≡ entry_inserted e.queue (entry_view e) (map (indexed_at slots) queues)
   inserted_seen =
       inserts.inserted slots slots' queues listed at d within q' key place e others vacant stored keyed_there plain e.queue found
       (subst (λ (x : HeldQueue). place ≡ position_or_len (λ k. slot_test (label_before x.def.order e.label) (slot_at slots k)) x.keys.items) is_d is_place)
@@ -76,11 +76,11 @@ module _ (slots slots' : List (Option Entry)) (queues : List HeldQueue) (listed 
   pub removed_listed : IsListed slots' (set queues at q')
   removed_listed = removals.listed_new slots slots' queues listed at d within' q' place inside key key_there others gone keyed_there'
 
-  pub removed_seen : map (indexed_at slots') (set queues at q') ≡ item_removed id (map (indexed_at slots) queues)
+  pub removed_seen : map (indexed_at slots') (set queues at q') ≡ entry_removed id (map (indexed_at slots) queues)
   removed_seen = removals.removed slots slots' queues listed at d within' q' place inside key key_there others gone keyed_there' id holds found_there
 
-  pub removed_item : option_map item_of (slot_at slots key) ≡ item_with_id id (map (indexed_at slots) queues)
-  removed_item = removals.taken slots slots' queues listed at d within' q' place inside key key_there others gone keyed_there' id holds found_there
+  pub removed_entry : option_map entry_view (slot_at slots key) ≡ entry_with_id id (map (indexed_at slots) queues)
+  removed_entry = removals.taken slots slots' queues listed at d within' q' place inside key key_there others gone keyed_there' id holds found_there
 
 pub position-passes : {X : Type 0} (test : X → Bool) (xs : List X) (at : ℕ) (d : X) → position test xs ≡ Some at → test (get_or xs at d) ≡ true
 position-passes test xs at d found =
@@ -113,7 +113,7 @@ module _ (a b : List HeldQueue) (grown : AreGrown a b) where
 
   pub seen_grown : (slots : List (Option Entry)) → map (indexed_at slots) b ≡ map (indexed_at slots) a
   seen_grown slots =
-      sym (map_grown (indexed_at slots) (λ q q' g i. record { index = sym g.index i; queue = queue_of (sym g.def i) (map (item_at slots) (sym g.keys_are i)) }))
+      sym (map_grown (indexed_at slots) (λ q q' g i. record { index = sym g.index i; queue = queue_of (sym g.def i) (map (entry_at slots) (sym g.keys_are i)) }))
 
   pub listed_grown : (slots : List (Option Entry)) → IsListed slots a → IsListed slots b
   listed_grown slots listed = record {
@@ -178,7 +178,7 @@ module _ (slots : List (Option Entry)) (queues : List HeldQueue) (listed : IsLis
   added_seen is_place =
       map-insert (indexed_at slots) queues place q
       ∙ λ i. insert (map (indexed_at slots) queues) ((is_place ∙ sym (position_or_len-map (indexed_at slots) (comes_before d.name) queues)) i)
-      (record { index = is_index i; queue = queue_of (is_def i) (map (item_at slots) (is_empty i)) })
+      (record { index = is_index i; queue = queue_of (is_def i) (map (entry_at slots) (is_empty i)) })
 
 pub room_added : (queues : List HeldQueue) (place n m : ℕ) (q : HeldQueue) → m ≤ n → HasRoomIn n queues → vec_len q.keys + m ≤ vec_capacity q.keys → HasRoomIn m (insert queues place q)
 room_added queues place n m q less room here =

@@ -7,17 +7,17 @@ use Rattle.std.proofs.lemmas.List.Sums.{sum_by-cons}
 use Rattle.tq_types.specs.declared.identifiers.Arrival.{Arrival}
 use Rattle.tq_types.specs.declared.identifiers.MsgId.{MsgId}
 use Rattle.tq_types.specs.declared.rooms.Lack.{Lack}
-use Rattle.tq_types.specs.declared.messages.Entry.{Entry}
+use Rattle.tq_types.specs.declared.messages.Entry.{Entry as HeldEntry}
 use Rattle.tq_model.specs.declared.calls.EnqueueCall.{EnqueueCall}
 use Rattle.tq_model.specs.declared.calls.DequeueCall.{DequeueCall}
 use Rattle.tq_model.specs.declared.calls.CallAnswer.{CallAnswer}
 use Rattle.tq_model.specs.declared.calls.CallAnswer.TheVariants.{Enqueued, BadQueue, NoSpace}
 use Rattle.tq_model.specs.declared.space.SpaceMove.{SpaceMove}
 use Rattle.tq_model.specs.declared.space.SpaceMove.TheVariants.{Insert, Remove}
-use Rattle.tq_model.specs.Space.{Space, Queue, Item, change_first, is_named, queue_named, is_free, is_past, is_expired, purged, purged_queue, with_item, with_item_in, without, without_item, holds_id, space_without}
-use Rattle.tq_model.specs.Moves.{IndexedQueue, IndexedSpace, the_queue, space_of, has_index, on_queue, item_of, item_inserted, item_removed, moved_by, purged_of}
+use Rattle.tq_model.specs.Space.{Space, Queue, Entry, change_first, is_named, queue_named, is_free, is_past, is_expired, purged, purged_queue, with_entry, with_entry_in, without, without_entry, holds_id, space_without}
+use Rattle.tq_model.specs.Moves.{IndexedQueue, IndexedSpace, the_queue, space_of, has_index, on_queue, entry_view, entry_inserted, entry_removed, moved_by, purged_of}
 use Rattle.tq_model.specs.Room.{is_lacking, first_lacking, message_rooms, messages_held, pages_held, pages_at}
-use Rattle.tq_model.specs.EnqueueStep.{CallOutcome, quality, next_id, new_item, enqueue_refusal, enqueue_refusal_at, enqueue_step, enqueued, with_message, unless_refused}
+use Rattle.tq_model.specs.EnqueueStep.{CallOutcome, quality, next_id, entry_to_come, enqueue_refusal, enqueue_refusal_at, enqueue_step, enqueued, with_message, unless_refused}
 use Rattle.tq_model.specs.DequeueStep.{found_in, delivered, dequeue_answer, taken_from, dequeue_step, dequeue_refusal, refusal_at}
 use Rattle.tq_space.specs.declared.plans.Plan.{Plan}
 use Rattle.tq_space.specs.Plain.{HasNoExpirations, IsPlainEntry, CanInsert, CanMoveBy}
@@ -35,19 +35,19 @@ filter_kept p (x ∷ xs) h =
     let rest = filter_kept p xs (All-tail (λ y. p y ≡ true) x xs h) in
     λ i. cond (first i) (x ∷ rest i) (rest i)
 
-stays : (t : ℕ) (item : Item) → item.letter.expiration ≡ None → not (is_expired t item) ≡ true
+stays : (t : ℕ) (item : Entry) → item.message.expiration ≡ None → not (is_expired t item) ≡ true
 stays t item h =
-    let none : is_past t item.letter.expiration ≡ false = ap (is_past t) h in
-    elim (is_free item.holding) as (λ b. not (b && is_past t item.letter.expiration) ≡ true) [ true ↦ ap not none | false ↦ refl ]
+    let none : is_past t item.message.expiration ≡ false = ap (is_past t) h in
+    elim (is_free item.mark) as (λ b. not (b && is_past t item.message.expiration) ≡ true) [ true ↦ ap not none | false ↦ refl ]
 
 purged_queues : (t : ℕ) (qs : List IndexedQueue) → HasNoExpirations qs → map (purged_queue t) (map the_queue qs) ≡ map the_queue qs
 purged_queues t [] h = refl
 purged_queues t (q ∷ qs) h =
-    let P : IndexedQueue → Type 0 = λ (x : IndexedQueue). All (λ (item : Item). item.letter.expiration ≡ None) x.queue.items in
+    let P : IndexedQueue → Type 0 = λ (x : IndexedQueue). All (λ (item : Entry). item.message.expiration ≡ None) x.queue.items in
     let first = All-head P q qs h in
     let rest = purged_queues t qs (All-tail P q qs h) in
-    let items : filter (λ (item : Item). not (is_expired t item)) q.queue.items ≡ q.queue.items =
-    filter_kept (λ (item : Item). not (is_expired t item)) q.queue.items (λ k d lt. stays t (get_or q.queue.items k d) (first k d lt)) in
+    let items : filter (λ (item : Entry). not (is_expired t item)) q.queue.items ≡ q.queue.items =
+    filter_kept (λ (item : Entry). not (is_expired t item)) q.queue.items (λ k d lt. stays t (get_or q.queue.items k d) (first k d lt)) in
     λ i. record q.queue { items = items i } ∷ rest i
 
 pub purged_same : (t : ℕ) (s : IndexedSpace) → HasNoExpirations s.queues → purged t (space_of s) ≡ space_of s
@@ -156,7 +156,7 @@ module _ (held : IndexedSpace) (lasting : HasNoExpirations held.queues) (call : 
 
     pub enqueue_planned : (next : Arrival) (distinct : HasDistinctIndices held.queues)
         → first_lacking (message_rooms (space_of held) (space_of held) (pages_at (quality call.qos q.queue.qos) (length call.body))) ≡ None
-        → (e : Entry) → item_of e ≡ new_item (space_of held) q.queue call next → e.queue ≡ q.index → IsPlainEntry e
+        → (e : HeldEntry) → entry_view e ≡ entry_to_come (space_of held) q.queue call next → e.queue ≡ q.index → IsPlainEntry e
         → pages_at e.message.qos (length e.message.body) ≡ pages_at (quality call.qos q.queue.qos) (length call.body)
         → (plan : Plan) → plan.purge ≡ [] → plan.moves ≡ Insert e ∷ []
         → plan.answer ≡ Some (Enqueued (if call.want_id then Some (next_id (space_of held) next) else None))
@@ -168,11 +168,11 @@ module _ (held : IndexedSpace) (lasting : HasNoExpirations held.queues) (call : 
         let step : enqueue_step S call clock next ≡ enqueued S call next =
         ap (λ (r : Option CallAnswer). unless_refused r s (enqueued s call next)) none ∙ ap (λ (x : Space). enqueued x call next) (purged_same clock held lasting) in
         let named : queue_named call.queue S.queues ≡ Some q.queue = find-map the_queue (is_named call.queue) held.queues ∙ ap (option_map the_queue) found in
-        let after : with_message S call next (queue_named call.queue S.queues) ≡ record S { queues = with_item_in call.queue (new_item S q.queue call next) S.queues } =
+        let after : with_message S call next (queue_named call.queue S.queues) ≡ record S { queues = with_entry_in call.queue (entry_to_come S q.queue call next) S.queues } =
         ap (with_message S call next) named in
-        let inserted : map the_queue (item_inserted e.queue (item_of e) held.queues) ≡ with_item_in call.queue (new_item S q.queue call next) S.queues =
-        (λ i. map the_queue (item_inserted (is_index i) (is_item i) held.queues))
-        ∙ change_named call.queue (with_item (new_item S q.queue call next)) q held.queues distinct found in
+        let inserted : map the_queue (entry_inserted e.queue (entry_view e) held.queues) ≡ with_entry_in call.queue (entry_to_come S q.queue call next) S.queues =
+        (λ i. map the_queue (entry_inserted (is_index i) (is_item i) held.queues))
+        ∙ change_named call.queue (with_entry (entry_to_come S q.queue call next)) q held.queues distinct found in
         let queue_there : list_any (has_index e.queue) held.queues ≡ true = ap (λ (n : ℕ). list_any (has_index n) held.queues) is_index ∙ found_any call.queue q held.queues found in
         let bounds = no_lack (record { resource = _; need = 1; held = messages_held S; limit = held.limits.messages }) (record { resource = _; need = pages_at (quality call.qos q.queue.qos) (length call.body); held = pages_held S; limit = held.limits.pages }) room in
         let P : List MsgId → List SpaceMove → Type 0 = λ (purge : List MsgId) (moves : List SpaceMove). CanMoveBy moves (purged_of purge held) in
@@ -191,11 +191,11 @@ module _ (held : IndexedSpace) (lasting : HasNoExpirations held.queues) (call : 
 
 -- ---- the dequeue step
 
-without_seen : (id : MsgId) (qs : List IndexedQueue) → map the_queue (item_removed id qs) ≡ without id (map the_queue qs)
+without_seen : (id : MsgId) (qs : List IndexedQueue) → map the_queue (entry_removed id qs) ≡ without id (map the_queue qs)
 without_seen id [] = refl
 without_seen id (q ∷ qs) =
-    elim (holds_id id q.queue) as (λ b. map the_queue (cond b (on_queue (without_item id) q ∷ qs) (q ∷ item_removed id qs))
-    ≡ cond b (without_item id q.queue ∷ map the_queue qs) (q.queue ∷ without id (map the_queue qs))) [
+    elim (holds_id id q.queue) as (λ b. map the_queue (cond b (on_queue (without_entry id) q ∷ qs) (q ∷ entry_removed id qs))
+    ≡ cond b (without_entry id q.queue ∷ map the_queue qs) (q.queue ∷ without id (map the_queue qs))) [
       | true ↦ refl
       | false ↦ ap (λ (l : List Queue). q.queue ∷ l) (without_seen id qs)
     ]
@@ -205,7 +205,7 @@ found_same call clock None = refl
 found_same call clock (Some q) = refl
 
 module _ (held : IndexedSpace) (lasting : HasNoExpirations held.queues) (call : DequeueCall) (clock : ℕ) (o : Option IndexedQueue)
-    (found : find (indexed_named call.queue) held.queues ≡ o) (r : Option Item) (answering : answer_in call clock o ≡ r) where
+    (found : find (indexed_named call.queue) held.queues ≡ o) (r : Option Entry) (answering : answer_in call clock o ≡ r) where
   named : queue_named call.queue (space_of held).queues ≡ option_map the_queue o
   named = find-map the_queue (is_named call.queue) held.queues ∙ ap (option_map the_queue) found
 
@@ -238,18 +238,18 @@ dequeue_refused held call clock answer purge nothing refused step = (
   ap (λ (p : List MsgId). space_of (purged_of p held)) nothing ∙ sym (ap (λ (o : CallOutcome). o.space) step),
 )
 
-pub dequeue_planned : (held : IndexedSpace) (call : DequeueCall) (clock : ℕ) (item : Item) (plan : Plan)
+pub dequeue_planned : (held : IndexedSpace) (call : DequeueCall) (clock : ℕ) (item : Entry) (plan : Plan)
     → dequeue_refusal (space_of held) call clock ≡ None
     → dequeue_step (space_of held) call clock ≡ record { space = taken_from (space_of held) call (Some item); answer = delivered call item }
-    → plan.purge ≡ [] → plan.moves ≡ option_to_list (if call.peek then None else Some (Remove item.letter.id)) → plan.answer ≡ Some (delivered call item)
+    → plan.purge ≡ [] → plan.moves ≡ option_to_list (if call.peek then None else Some (Remove item.message.id)) → plan.answer ≡ Some (delivered call item)
     → IsPlanOf (dequeue_step (space_of held) call clock) held plan × (dequeue_refusal (space_of held) call clock ≡ None)
 dequeue_planned held call clock item plan none step no_purge is_moves is_answer =
     let S = space_of held in
-    let moves_at = λ (b : Bool). option_to_list (if b then None else Some (Remove item.letter.id)) in
+    let moves_at = λ (b : Bool). option_to_list (if b then None else Some (Remove item.message.id)) in
     let after : space_of (moved_by (moves_at call.peek) held) ≡ taken_from S call (Some item) =
-    elim call.peek as (λ b. space_of (moved_by (moves_at b) held) ≡ (if b then S else space_without item.letter.id S)) [
+    elim call.peek as (λ b. space_of (moved_by (moves_at b) held) ≡ (if b then S else space_without item.message.id S)) [
       | true ↦ refl
-      | false ↦ λ i. record S { queues = without_seen item.letter.id held.queues i }
+      | false ↦ λ i. record S { queues = without_seen item.message.id held.queues i }
     ] in
     let can : CanMoveBy (moves_at call.peek) held =
     elim call.peek as (λ b. CanMoveBy (moves_at b) held) [ true ↦ tt | false ↦ (tt, tt) ] in (

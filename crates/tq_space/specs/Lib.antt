@@ -7,6 +7,6 @@ pub mod Plain
 pub mod Applied
 pub mod Reads
 pub mod Reading
-pub mod Kept
+pub mod SpaceView
 pub mod Planned
 pub mod NewEntry

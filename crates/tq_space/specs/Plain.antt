@@ -36,7 +36,7 @@ pub record IsPlainChange (c : Change) : Type 0 where
 
 -- no entry expires
 abbrev pub HasNoExpirations : List IndexedQueue → Type 0
-HasNoExpirations queues = All (λ q. All (λ item. item.letter.expiration ≡ None) q.queue.items) queues
+HasNoExpirations queues = All (λ q. All (λ item. item.message.expiration ≡ None) q.queue.items) queues
 
 -- Which moves can be made
 

@@ -5,10 +5,10 @@ use Rattle.tq_model.specs.declared.calls.EnqueueAsk.{EnqueueAsk}
 use Rattle.tq_model.specs.declared.calls.DequeueAsk.{DequeueAsk}
 use Rattle.tq_model.specs.declared.calls.CallAnswer.{CallAnswer}
 use Rattle.tq_model.specs.declared.space.SpaceMove.TheVariants.{Insert, Remove, PutQueue}
-use Rattle.tq_model.specs.Space.{Item}
+use Rattle.tq_model.specs.Space.{Entry}
 use Rattle.tq_model.specs.Moves.{IndexedQueue, IndexedSpace, space_of, has_index, indexed_holds, purged_of}
 use Rattle.tq_model.specs.EnqueueStep.{CallOutcome, quality, next_id}
-use Rattle.tq_model.specs.SpaceForm.{plain_queue, holds_name, can_make}
+use Rattle.tq_model.specs.SpaceForm.{default_queue, holds_name, can_make}
 use Rattle.tq_space.specs.declared.plans.Plan.{Plan}
 use Rattle.tq_space.specs.declared.plans.Refusal.{Refusal}
 use Rattle.tq_space.specs.declared.plans.Refusal.TheVariants.{Refused, NoMemory}
@@ -48,7 +48,7 @@ pub record IsInsertOf (ask : EnqueueAsk) (held : IndexedSpace) (plan : Plan) : T
   pub moves : plan.moves ≡ Insert (entry_of ask queue.index (quality ask.call.qos queue.queue.qos) (next_id (space_of held) ask.next)) ∷ []
 
 -- an entry of the space
-pub record IsAmong (item : Item) (held : IndexedSpace) : Type 0 where
+pub record IsAmong (item : Entry) (held : IndexedSpace) : Type 0 where
   pub queue : IndexedQueue
   pub of_space : Contains held.queues queue
   pub of_queue : Contains queue.queue.items item
@@ -56,10 +56,10 @@ pub record IsAmong (item : Item) (held : IndexedSpace) : Type 0 where
 -- a dequeue: an entry of the space goes, but at a peek
 pub record IsRemovalOf (ask : DequeueAsk) (held : IndexedSpace) (plan : Plan) : Type 0 where
   pub purge : plan.purge ≡ []
-  pub item : Item
+  pub item : Entry
   pub within : IsAmong item held
-  pub holds : list_any (indexed_holds item.letter.id) held.queues ≡ true
-  pub moves : plan.moves ≡ (if ask.call.peek then [] else Remove item.letter.id ∷ [])
+  pub holds : list_any (indexed_holds item.message.id) held.queues ≡ true
+  pub moves : plan.moves ≡ (if ask.call.peek then [] else Remove item.message.id ∷ [])
 
 -- a queue of a new name is made under the lowest index that no queue has
 pub record IsCreationOf (name : List ℕ) (held : IndexedSpace) (plan : Plan) : Type 0 where
@@ -67,7 +67,7 @@ pub record IsCreationOf (name : List ℕ) (held : IndexedSpace) (plan : Plan) : 
   pub index : ℕ
   pub lowest : (i : ℕ) → i < index → list_any (has_index i) held.queues ≡ true
   pub can : can_make held index name ≡ true
-  pub moves : plan.moves ≡ PutQueue index (plain_queue name) ∷ []
+  pub moves : plan.moves ≡ PutQueue index (default_queue name) ∷ []
   pub answer : plan.answer ≡ None
 
 -- no queue has the name, and there are fewer than the space may have

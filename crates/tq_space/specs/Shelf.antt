@@ -9,10 +9,10 @@ use Rattle.tq_space.specs.declared.shelf.Shelf.TheInside.{Inside}
 use Rattle.tq_space.specs.State.{ShelfValue}
 use Rattle.tq_space.specs.Grown.{HasRoomIn}
 use Rattle.tq_space.specs.Spare.{HasSpare}
-use Rattle.tq_space.specs.Slots.{slot_at, item_at, slot_count, IsPlainSlot}
+use Rattle.tq_space.specs.Slots.{slot_at, entry_at, slot_count, IsPlainSlot}
 
 abbrev pub indexed_at : List (Option Entry) → HeldQueue → IndexedQueue
-indexed_at slots q = record { index = q.index; queue = queue_of q.def (map (item_at slots) q.keys.items) }
+indexed_at slots q = record { index = q.index; queue = queue_of q.def (map (entry_at slots) q.keys.items) }
 
 -- how often a key is listed
 abbrev pub key_count : ℕ → List HeldQueue → ℕ

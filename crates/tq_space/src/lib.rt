@@ -8,4 +8,4 @@ mod space;
 
 pub use plans::{Moves, Plan, Purge, QueueRefusal, Refusal};
 pub use space::{Space, plan_of};
-pub use tq_model::plain_queue;
+pub use tq_model::default_queue;

@@ -1,6 +1,6 @@
 ghost use Rattle.std.specs.Prelude.{◌≡◌, ℕ, true, false, ◌&&◌, nat_lt, nat_le, ◌+◌, ◌-◌, ◌*◌, option_copied, option_to_list, if◌then◌else◌, ◌≤◌, [], ◌∷◌, length, IfOk, OnOk, OnErr, MatchOption, Some, None, option_map};
 ghost use Rattle.tq_model.specs.Space.{body_length};
-ghost use Rattle.tq_model.specs.Moves.{item_of, space_of, purged_of, moved, moved_by, has_index, item_with_id};
+ghost use Rattle.tq_model.specs.Moves.{entry_view, space_of, purged_of, moved, moved_by, has_index, entry_with_id};
 ghost use Rattle.std.specs.List.{find, list_any};
 ghost use Rattle.tq_space.specs.Reads.{indexed_named};
 ghost use Rattle.tq_model.specs.Room.{pages_for, pages_at, messages_held, pages_held, message_rooms, first_lacking};
@@ -18,7 +18,7 @@ use std::alloc::{AllocError, Global};
 use std::marker::Model;
 use tq_model::{
     CallAnswer, Change, Delivery, DequeueAsk, DequeueCall, EnqueueAsk, QueueDef, Shape, SpaceMove,
-    message_pages, overhead_pages, pages_for, plain_queue,
+    message_pages, overhead_pages, pages_for, default_queue,
 };
 use tq_types::{
     Arrival, AskedQos, Body, Entry, Label, Lack, Mark, Message, MsgId, Name, Path, Qos, Resource,
@@ -53,7 +53,7 @@ impl Model for Space {
 
     ghost Value = { SpaceState };
 
-    ghost use Rattle.tq_space.specs.Kept.{space_view, IsSpace};
+    ghost use Rattle.tq_space.specs.SpaceView.{space_view, IsSpace};
 
     ghost view = { space_view };
 
@@ -172,7 +172,7 @@ fn removal(peek: bool, id: MsgId) -> Option<SpaceMove>
 
 /// An entry as it is handed out.
 fn delivery_of(entry: &Entry, call: &DequeueCall) -> Result<Delivery, AllocError>
-    ensures { IfOk result (λ d. CallAnswer.Dequeued d ≡ delivered call.now (item_of entry.now)) }
+    ensures { IfOk result (λ d. CallAnswer.Dequeued d ≡ delivered call.now (entry_view entry.now)) }
 {
     let id = if call.asked.wants_id() {
         Some(entry.message.id)
@@ -322,7 +322,7 @@ impl Space {
         let Some(index) = self.shelf.unused_index(limit) else {
             unreachable!()
         };
-        let item = SpaceMove::PutQueue(index, plain_queue(name));
+        let item = SpaceMove::PutQueue(index, default_queue(name));
         let Ok(plan) = plan_of(alloc, Some(item), None) else {
             return Err(QueueRefusal::NoMemory);
         };
@@ -445,7 +445,7 @@ impl Space {
 
     /// A copy of the body of the entry with that identifier; none where there is no such entry.
     pub fn body(&self, id: &MsgId) -> Result<Option<Body>, AllocError>
-        ensures { IfOk result (λ o. o ≡ option_map (λ item. content_bytes item.letter.body) (item_with_id id.now self.now.held.queues)) }
+        ensures { IfOk result (λ o. o ≡ option_map (λ item. content_bytes item.message.body) (entry_with_id id.now self.now.held.queues)) }
     {
         match self.shelf.with_id(id) {
             Some(entry) => Ok(Some(entry.message.body.copy()?)),
@@ -455,7 +455,7 @@ impl Space {
 
     /// The length of the body of the entry with that identifier, if there is one.
     pub fn body_length(&self, id: &MsgId) -> Option<usize>
-        ensures { result ≡ option_map (λ item. body_length item.letter.body) (item_with_id id.now self.now.held.queues) }
+        ensures { result ≡ option_map (λ item. body_length item.message.body) (entry_with_id id.now self.now.held.queues) }
     {
         match self.shelf.with_id(id) {
             Some(entry) => Some(entry.message.body.len()),

@@ -5,7 +5,7 @@ use Rattle.std.proofs.lemmas.Bool.{and_from, le-leb, lt-ltb}
 use Rattle.std.proofs.lemmas.List.{get_or_past}
 use Rattle.tq_host.specs.declared.host.Failed.{Failed}
 use Rattle.tq_host.specs.View.{View}
-use Rattle.tq_host.specs.Calls.{StandsAt, IsTorn, IsWritten, IsDeviceCall, IsStill, Changes}
+use Rattle.tq_host.specs.Calls.{HasBytesAt, IsTorn, IsWritten, IsDeviceCall, IsStill, Changes}
 use Rattle.tq_host.specs.Within.{Within}
 use Rattle.tq_host.proofs.Steps.{IsSteps}
 use Rattle.tq_host.proofs.Within.{starts, still, changes}
@@ -46,7 +46,7 @@ module _ (s : Shape) (page old new : List ℕ) (long : length page ≡ 2049) (re
   pub formatted : is_creation s ≡ true → overhead_pages s < s.pages → IsZeroPadded (page_spelt s) page → IsFormatted s new
   formatted within pages begins =
       let short = page_spelt_most s within in
-      let stands : StandsAt space_start (page_spelt s) new = λ i below. written.stands i (omega arith) ∙ begins i in
+      let stands : HasBytesAt space_start (page_spelt s) new = λ i below. written.stands i (omega arith) ∙ begins i in
       let ends : space_start + length (page_spelt s) ≤ length new = omega (arith, written.size) in
       let log = run_at log_start (log_bytes s.pages) new in
       let place : log_start + 0 ≡ space_start + 2048 = omega arith in

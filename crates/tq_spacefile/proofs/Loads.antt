@@ -11,7 +11,7 @@ use Rattle.tq_gate.specs.Reading.{Content, content}
 use Rattle.tq_gate.specs.Log.{IsLog}
 use Rattle.tq_model.specs.declared.space.Shape.{Shape}
 use Rattle.tq_model.specs.Moves.{IndexedSpace}
-use Rattle.tq_model.specs.Plain.{IsOwn, IsPlainSpace}
+use Rattle.tq_model.specs.Plain.{IsOwn, KeepsAllAtCrash}
 use Rattle.tq_model.specs.SpaceForm.{raw_space, shape_of, log_bytes, replayed, empty_space}
 use Rattle.tq_model.specs.Reading.{page_tests, hold_all, space_start, payloads_in, space_in, Replayed}
 use Rattle.tq_model.proofs.Replays.{replayed_keeps, replayed_plain, empty_plain, empty_ids}
@@ -43,7 +43,7 @@ module _ (shape : Shape) (site number epoch : ℕ) (ps : List (List ℕ)) (held 
   pub replayed_own : IsOwn held
   replayed_own = replayed_keeps IsOwn epoch (λ s r can own. moved_own s r own) ps (empty_space shape site number) held replays (empty_ids (λ id. (id.site ≡ site) × (id.space ≡ number)) shape site number)
 
-  pub replayed_is_plain : IsPlainSpace held
+  pub replayed_is_plain : KeepsAllAtCrash held
   replayed_is_plain = replayed_plain epoch ps (empty_space shape site number) held (empty_plain shape site number) replays
 
 -- ---- what is read

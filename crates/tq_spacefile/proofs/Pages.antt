@@ -8,7 +8,7 @@ use Rattle.tq_field.specs.Digits.{digits, number_of}
 use Rattle.tq_field.specs.Places.{run_at, number_at}
 use Rattle.tq_field.proofs.Numbers.{length-digits}
 use Rattle.tq_field.proofs.Runs.{get_or-run_at}
-use Rattle.tq_host.specs.Calls.{StandsAt}
+use Rattle.tq_host.specs.Calls.{HasBytesAt}
 use Rattle.tq_gate.proofs.Stretches.{run_at-is}
 use Rattle.tq_model.specs.declared.space.Shape.{Shape}
 use Rattle.tq_model.specs.Space.{overhead_pages}
@@ -159,7 +159,7 @@ raw_space-page_spelt s fits =
     }
 
 -- Where a first page stands that was spelt, its fields are those of the shape.
-pub raw_space-spelt : (s : Shape) → is_creation s ≡ true → (at : ℕ) (image : List ℕ) → StandsAt at (page_spelt s) image → at + length (page_spelt s) ≤ length image → raw_space at image ≡ raw_of s
+pub raw_space-spelt : (s : Shape) → is_creation s ≡ true → (at : ℕ) (image : List ℕ) → HasBytesAt at (page_spelt s) image → at + length (page_spelt s) ≤ length image → raw_space at image ≡ raw_of s
 raw_space-spelt s within at image stands long =
     let p = page_spelt s in
     let whole = length-page_spelt s in
@@ -215,7 +215,7 @@ shape_at_is at pages bytes = ap (λ (t : Bool). if t then Some (shape_of pages (
 is_first_page-raw_of : (s : Shape) → is_creation s ≡ true → is_first_page s.pages (raw_of s) ≡ true
 is_first_page-raw_of s within = ap is_creation (shape_of-raw_of s within) ∙ within
 
-module _ (s : Shape) (within : is_creation s ≡ true) (at : ℕ) (image : List ℕ) (stands : StandsAt at (page_spelt s) image) (long : at + length (page_spelt s) ≤ length image) where
+module _ (s : Shape) (within : is_creation s ≡ true) (at : ℕ) (image : List ℕ) (stands : HasBytesAt at (page_spelt s) image) (long : at + length (page_spelt s) ≤ length image) where
   -- the shape that is read is the one that was spelt
   pub shape_of-spelt : shape_of s.pages (raw_space at image) ≡ s
   shape_of-spelt = ap (shape_of s.pages) (raw_space-spelt s within at image stands long) ∙ shape_of-raw_of s within
@@ -227,13 +227,13 @@ module _ (s : Shape) (within : is_creation s ≡ true) (at : ℕ) (image : List 
 -- a page that begins so is read back
 pub shape_in-spelt : (s : Shape) → is_creation s ≡ true → (page : List ℕ) → IsZeroPadded (page_spelt s) page → length (page_spelt s) ≤ length page → shape_in s.pages page ≡ Some s
 shape_in-spelt s within page begins long =
-    let stands : StandsAt 0 (page_spelt s) page = λ i below. ap (λ (k : ℕ). get_or page k 0) (zero-add i) ∙ begins i in
+    let stands : HasBytesAt 0 (page_spelt s) page = λ i below. ap (λ (k : ℕ). get_or page k 0) (zero-add i) ∙ begins i in
     let reach : 0 + length (page_spelt s) ≤ length page = omega (arith, long) in
     ap (λ (t : Bool). if t then Some (shape_of s.pages (raw_space 0 page)) else None) (page_tests-spelt s within 0 page stands reach)
     ∙ ap Some (shape_of-spelt s within 0 page stands reach)
 
 -- a first page that stands on a device is read as it is there
-pub shape_in-stands : (pages at : ℕ) (page image : List ℕ) → StandsAt at page image → length page ≡ 1024 → at + 1024 ≤ length image → get_or page 24 0 < 256 → shape_in pages page ≡ shape_at at pages image
+pub shape_in-stands : (pages at : ℕ) (page image : List ℕ) → HasBytesAt at page image → length page ≡ 1024 → at + 1024 ≤ length image → get_or page 24 0 < 256 → shape_in pages page ≡ shape_at at pages image
 shape_in-stands pages at page image stands long reach small =
     let size : get_or image (at + 24) 0 ≡ get_or page 24 0 = stands 24 (omega arith) in
     let raw : raw_space 0 page ≡ raw_space at image = ap (raw_space 0) (sym (run_at-is at page image (omega arith) stands)) ∙ raw_space-run_at at (length page) image (omega (arith, size)) in

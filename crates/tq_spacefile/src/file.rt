@@ -1,6 +1,6 @@
 ghost use Rattle.std.specs.Prelude.{◌≡◌};
 ghost use Rattle.tq_gate.specs.Log.{layout_of};
-ghost use Rattle.tq_model.specs.Plain.{IsOwn, IsPlainSpace};
+ghost use Rattle.tq_model.specs.Plain.{IsOwn, KeepsAllAtCrash};
 ghost use Rattle.tq_spacefile.specs.Place.{IsPlace, log_layout};
 
 use crate::SpacePlace;
@@ -14,7 +14,7 @@ pub struct SpaceFile {
     pub(crate) space: Space,
     pub(crate) log: GateLog,
     ghost own: { IsOwn space.held },
-    ghost plain: { IsPlainSpace space.held },
+    ghost plain: { KeepsAllAtCrash space.held },
     ghost placed: { IsPlace place },
     ghost layout: { layout_of log ≡ log_layout place },
 }

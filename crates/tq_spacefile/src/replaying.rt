@@ -6,7 +6,7 @@ use crate::FileError;
 use crate::payload::decode;
 use std::alloc::Global;
 use tq_model::{SpaceMove, SpaceRecord};
-use tq_space::{Space, plain_queue, plan_of};
+use tq_space::{Space, default_queue, plan_of};
 use tq_types::{Arrival, AskedQos, Body, Entry, Label, Mark, Message, MsgId, Path, Qos, Root};
 
 /// Whether a record may come next; its message is of this epoch at most.
@@ -86,7 +86,7 @@ pub(crate) fn move_for(space: &Space, change: SpaceRecord) -> SpaceMove
             SpaceMove::Insert(plain_entry(queue, arrival, id, body))
         }
         SpaceRecord::Gone(arrival) => SpaceMove::Remove(space.id_of(arrival)),
-        SpaceRecord::QueueMade(index, name) => SpaceMove::PutQueue(index, plain_queue(&name)),
+        SpaceRecord::QueueMade(index, name) => SpaceMove::PutQueue(index, default_queue(&name)),
     }
 }
 

@@ -28,9 +28,9 @@ pub(crate) struct PlacedSpace {
 }
 
 impl Model for PlacedSpace {
-    ghost use Rattle.tq_model.specs.Site.{Placed};
+    ghost use Rattle.tq_model.specs.Site.{SpaceOnDevice};
 
-    ghost Value = { Placed };
+    ghost Value = { SpaceOnDevice };
 
     ghost view = { λ p. record { name = p.name; pages = p.pages; extents = p.extents; logged = p.logged; space = p.space } };
 }

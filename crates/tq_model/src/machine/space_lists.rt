@@ -1,9 +1,9 @@
 ghost use Rattle.std.specs.Prelude.{◌≡◌, ◌<◌, ◌+◌, ◌^◌, ℕ, List, nat_le, false, if◌then◌else◌, [], ◌∷◌, length, map, Some, None, option_copied, IfOk, OnOk, OnErr};
 ghost use Rattle.std.specs.List.{list_any, position, position_or_len, sum_by};
-ghost use Rattle.tq_model.specs.Space.{Free, is_named, comes_after, holds_id, is_expired, purged, purged_queue, crashed, crashed_queue, new_space, queue_named, without, with_item_in};
-ghost use Rattle.tq_model.specs.Moves.{item_of};
+ghost use Rattle.tq_model.specs.Space.{Free, is_named, comes_after, holds_id, is_expired, purged, purged_queue, crashed, crashed_queue, new_space, queue_named, without, with_entry_in};
+ghost use Rattle.tq_model.specs.Moves.{entry_view};
 ghost use Rattle.tq_model.specs.Room.{queue_pages, first_lacking, message_rooms};
-ghost use Rattle.tq_model.specs.EnqueueStep.{next_id, plain_label, new_letter, enqueue_step, enqueue_refusal};
+ghost use Rattle.tq_model.specs.EnqueueStep.{next_id, plain_label, message_to_come, enqueue_step, enqueue_refusal};
 ghost use Rattle.tq_model.specs.DequeueStep.{delivered, dequeue_step, dequeue_refusal};
 ghost use Rattle.tq_model.specs.Step.{has_queue, with_queue, enqueue_call, dequeue_call};
 ghost use Rattle.tq_model.specs.Asked.{space_refusal, space_after, answer_to};
@@ -327,8 +327,8 @@ fn add_at(
     clock: u64,
 ) -> Result<(), AllocError>
     requires within { place < length queues.old }
-    requires lasts { is_expired clock (item_of entry) ≡ false }
-    ensures ok { OnOk result ((name : List ℕ) → position (is_named name) queues.old ≡ Some place → queues.new ≡ with_item_in name (item_of entry) (map (purged_queue clock) queues.old)) }
+    requires lasts { is_expired clock (entry_view entry) ≡ false }
+    ensures ok { OnOk result ((name : List ℕ) → position (is_named name) queues.old ≡ Some place → queues.new ≡ with_entry_in name (entry_view entry) (map (purged_queue clock) queues.old)) }
     ensures err { OnErr result (queues.new ≡ queues.old) }
 {
     queues[place].add(entry, clock)?;
@@ -389,7 +389,7 @@ fn new_entry(
     qos: Qos,
     id: MsgId,
 ) -> Result<Entry, AllocError>
-    ensures { IfOk result (λ e. item_of e ≡ record { label = plain_label (enqueue_call words.now clock) next; holding = Free; letter = new_letter (enqueue_call words.now clock) qos id }) }
+    ensures { IfOk result (λ e. entry_view e ≡ record { label = plain_label (enqueue_call words.now clock) next; mark = Free; message = message_to_come (enqueue_call words.now clock) qos id }) }
 {
     Ok(Entry {
         queue: 0,
@@ -423,7 +423,7 @@ fn new_entry(
 
 /// An entry as it is handed out.
 fn delivery_of(entry: &Entry, words: &DequeueWords) -> Result<Delivery, AllocError>
-    ensures { IfOk result (λ d. CallAnswer.Dequeued d ≡ delivered (dequeue_call words.now) (item_of entry.now)) }
+    ensures { IfOk result (λ d. CallAnswer.Dequeued d ≡ delivered (dequeue_call words.now) (entry_view entry.now)) }
 {
     Ok(Delivery {
         body: entry.message.body.copy()?,

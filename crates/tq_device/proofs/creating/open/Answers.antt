@@ -1,7 +1,7 @@
 use Rattle.std.proofs.Common.{sym, subst, arith}
 use Rattle.tq_host.specs.Calls.{IsPulled}
 use Rattle.tq_host.proofs.Within.{starts, still, changes}
-use Rattle.tq_device.specs.Content.{Stands, IsAnyStep, IsBlankOrNew, new_content}
+use Rattle.tq_device.specs.Content.{HasContent, IsAnyStep, IsBlankOrNew, new_content}
 use Rattle.tq_device.specs.Made.{IsLaidOut}
 use Rattle.tq_device.proofs.Making.{any_steps, opened, pulled_open, laid_is_blank}
 use Rattle.tq_device.proofs.Pieces.{at_ok}
@@ -26,4 +26,4 @@ pub returns-clause-done : goal.returns-clause-done
 returns-clause-done g c = at_ok c.sync.result (λ t site clusters laid.
     let resized = c.in_ok-set_length.ensures.set t in
     let read = opened site clusters _ ((g.H.Host.view c.set_length.new.self).reads c.args.dev) laid (λ i lt. resized.front i (omega (arith, laid.size))) (omega (arith, resized.size)) in
-    subst (Stands (new_content site clusters)) (sym (c.sync.ensures.still.reads c.args.dev)) read)
+    subst (HasContent (new_content site clusters)) (sym (c.sync.ensures.still.reads c.args.dev)) read)

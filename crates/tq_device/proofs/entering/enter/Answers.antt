@@ -1,7 +1,7 @@
 use Rattle.std.proofs.Common.{List, ℕ}
 use Rattle.tq_host.proofs.Resting.{rest_on}
 use Rattle.tq_host.proofs.Within.{weaker, in_a_row}
-use Rattle.tq_device.specs.Content.{Stands, IsSameButTable, IsOldOrEntered}
+use Rattle.tq_device.specs.Content.{HasContent, IsSameButTable, IsOldOrEntered}
 use Rattle.tq_device.specs.Entered.{IsTableFilled}
 use Rattle.tq_device.proofs.Pieces.{on_ok, settled_has}
 use Rattle.tq_device.proofs.NextSpace.{table_steps, stands_is_old}
@@ -11,7 +11,7 @@ pub returns-in_err-fill_table-clause-stop : goal.returns-in_err-fill_table-claus
 returns-in_err-fill_table-clause-stop g c = λ stand.
     let d = c.args.content.now in
     let n : List ℕ × ℕ = (c.args.name, c.args.pages) in
-    weaker c.args.dev IsSameButTable table_steps (Stands d) (IsOldOrEntered d n) _ _ (λ a b may is. stands_is_old d n b is) (c.fill_table.ensures.stop (λ a may. (stand a may).0))
+    weaker c.args.dev IsSameButTable table_steps (HasContent d) (IsOldOrEntered d n) _ _ (λ a b may is. stands_is_old d n b is) (c.fill_table.ensures.stop (λ a may. (stand a may).0))
 
 pub returns-clause-kept : goal.returns-clause-kept
 returns-clause-kept g c = on_ok c.choose_table.result c.choose_table.ensures.kept (λ second t. table_steps.both _ _ _ (c.in_ok-fill_table.ensures.kept t) (second t))
@@ -23,7 +23,7 @@ returns-clause-stop g c = λ stand.
     let old = g.H.Host.view c.args.host.now in
     let mid = g.H.Host.view c.fill_table.new.host in
     let filled = c.in_ok-fill_table.ensures in
-    let first = weaker c.args.dev IsSameButTable table_steps (Stands d) (IsOldOrEntered d n) old mid (λ a b may is. stands_is_old d n b is) (c.fill_table.ensures.stop (λ a may. (stand a may).0)) in
+    let first = weaker c.args.dev IsSameButTable table_steps (HasContent d) (IsOldOrEntered d n) old mid (λ a b may is. stands_is_old d n b is) (c.fill_table.ensures.stop (λ a may. (stand a may).0)) in
     let all = settled_has (IsTableFilled d c.args.name c.args.pages) c.args.dev mid (g.met.H.Host.lawful c.fill_table.new.host) filled.settled filled.done in
     in_a_row c.args.dev IsSameButTable table_steps (IsOldOrEntered d n) old mid _ first (c.choose_table.ensures.stop all)
 

@@ -1,7 +1,7 @@
 use Rattle.std.proofs.Common.{length, arith}
 use Rattle.tq_host.specs.Calls.{IsTorn}
 use Rattle.tq_model.specs.Reading.{table_a, table_b}
-use Rattle.tq_device.specs.Content.{Stands, IsSameButTable}
+use Rattle.tq_device.specs.Content.{HasContent, IsSameButTable}
 use Rattle.tq_device.proofs.Areas.{other_most}
 use Rattle.tq_device.proofs.NextSpace.{table_torn, table_written}
 use Rattle.tq_device.proofs.Pieces.{refined}
@@ -17,13 +17,13 @@ pub returns-in_err-write_synced-clause-stop : goal.returns-in_err-write_synced-c
 returns-in_err-write_synced-clause-stop g c = λ stand.
     let d = c.args.content.now in
     let n = length c.entered_base-base.result in
-    refined c.args.dev (IsTorn c.other.result n) IsSameButTable (Stands d) (Stands d) (g.H.Host.view c.args.host.now) _ stand (λ a b is torn. table_torn d c.other.result n a b c.other.ensures (omega arith) is torn) c.write_synced.ensures.stop
+    refined c.args.dev (IsTorn c.other.result n) IsSameButTable (HasContent d) (HasContent d) (g.H.Host.view c.args.host.now) _ stand (λ a b is torn. table_torn d c.other.result n a b c.other.ensures (omega arith) is torn) c.write_synced.ensures.stop
 
 pub returns-clause-stop : goal.returns-clause-stop
 returns-clause-stop g c = λ stand.
     let d = c.args.content.now in
     let n = length c.entered_base-base.result in
-    refined c.args.dev (IsTorn c.other.result n) IsSameButTable (Stands d) (Stands d) (g.H.Host.view c.args.host.now) _ stand (λ a b is torn. table_torn d c.other.result n a b c.other.ensures (omega arith) is torn) c.write_synced.ensures.stop
+    refined c.args.dev (IsTorn c.other.result n) IsSameButTable (HasContent d) (HasContent d) (g.H.Host.view c.args.host.now) _ stand (λ a b is torn. table_torn d c.other.result n a b c.other.ensures (omega arith) is torn) c.write_synced.ensures.stop
 
 pub returns-clause-done : goal.returns-clause-done
 returns-clause-done g c = λ t. (table_written c.args.content.now c.args.name.now c.args.pages c.other.result c.entered_base-base.result _ _ c.other.ensures (omega arith)

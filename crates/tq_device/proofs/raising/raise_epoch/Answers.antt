@@ -1,5 +1,5 @@
 use Rattle.tq_host.proofs.Within.{weaker, in_a_row}
-use Rattle.tq_device.specs.Content.{Stands, IsSameButJournal, IsOldOrRaised}
+use Rattle.tq_device.specs.Content.{HasContent, IsSameButJournal, IsOldOrRaised}
 use Rattle.tq_device.specs.Raised.{IsFilled}
 use Rattle.tq_device.proofs.Pieces.{on_ok, settled_has}
 use Rattle.tq_device.proofs.NextEpoch.{journal_steps, stands_is_old}
@@ -14,6 +14,6 @@ returns-clause-stop g c = λ stand.
     let old = g.H.Host.view c.args.host.now in
     let mid = g.H.Host.view c.fill.new.host in
     let filled = c.in_ok-fill.ensures in
-    let first = weaker c.args.dev IsSameButJournal journal_steps (Stands d) (IsOldOrRaised d) old mid (λ a b may is. stands_is_old d b is) (c.fill.ensures.stop stand) in
+    let first = weaker c.args.dev IsSameButJournal journal_steps (HasContent d) (IsOldOrRaised d) old mid (λ a b may is. stands_is_old d b is) (c.fill.ensures.stop stand) in
     let all = settled_has (IsFilled d) c.args.dev mid (g.met.H.Host.lawful c.fill.new.host) filled.settled filled.done in
     in_a_row c.args.dev IsSameButJournal journal_steps (IsOldOrRaised d) old mid _ first (c.choose.ensures.stop all)

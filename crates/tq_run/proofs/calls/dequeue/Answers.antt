@@ -3,8 +3,8 @@ use Rattle.tq_model.specs.Step.{dequeue}
 use Rattle.tq_model.specs.SpaceForm.{gone_length}
 use Rattle.tq_run.specs.Manager.{site_of}
 use Rattle.tq_run.specs.Calls.{dequeued_in, dequeue_refusal_in, IsSameOrChanged, answer_of}
-use Rattle.tq_run.proofs.Stopping.{nothing_done}
-use Rattle.tq_run.proofs.CallSites.{IsNamedIn, IsAfter, named_in, file_on, files_on, dequeue_within, dequeue_after}
+use Rattle.tq_run.proofs.DeviceStopLemmas.{nothing_done}
+use Rattle.tq_run.proofs.CallStepLemmas.{IsNamedIn, IsAfter, named_in, file_on, files_on, dequeue_within, dequeue_after}
 use Rattle.tq_run.proofs.calls.dequeue.Given.{Over}
 use Rattle.tq_run.proofs.calls.dequeue.Goals as goal
 use Rattle.tq_run.proofs.calls.dequeue.Goals.{In-Some, After-answer}

@@ -12,7 +12,7 @@ use Rattle.tq_model.specs.DequeueStep.{dequeue_step, dequeue_refusal}
 use Rattle.tq_space.specs.Planned.{IsPlanOf, IsRemovalOf}
 use Rattle.tq_spacefile.specs.File.{held_in}
 use Rattle.tq_run.specs.Calls.{refusal_in, full_log, dequeued_in, dequeue_refusal_in}
-use Rattle.tq_run.proofs.Calling.{IsFreePlan, meets_known, dequeue_planned, called_so, stops_so, stops_same}
+use Rattle.tq_run.proofs.CallLemmas.{IsFreePlan, meets_known, dequeue_planned, called_so, stops_so, stops_same}
 use Rattle.tq_run.proofs.calls.dequeue_in.Given.{Over}
 use Rattle.tq_run.proofs.calls.dequeue_in.Goals as goal
 use Rattle.tq_run.proofs.calls.dequeue_in.Goals.{After-take_answer-answer}

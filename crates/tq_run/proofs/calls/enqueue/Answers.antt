@@ -3,8 +3,8 @@ use Rattle.tq_model.specs.SpaceForm.{added_length}
 use Rattle.tq_model.specs.Step.{enqueue}
 use Rattle.tq_run.specs.Manager.{site_of}
 use Rattle.tq_run.specs.Calls.{enqueued_in, enqueue_refusal_in, IsSameOrChanged, answer_of}
-use Rattle.tq_run.proofs.Stopping.{nothing_done}
-use Rattle.tq_run.proofs.CallSites.{IsNamedIn, IsAfter, named_in, file_on, arrives, file_then, files_then, enqueue_within, enqueue_after}
+use Rattle.tq_run.proofs.DeviceStopLemmas.{nothing_done}
+use Rattle.tq_run.proofs.CallStepLemmas.{IsNamedIn, IsAfter, named_in, file_on, arrives, file_then, files_then, enqueue_within, enqueue_after}
 use Rattle.tq_run.proofs.calls.enqueue.Given.{Over}
 use Rattle.tq_run.proofs.calls.enqueue.Goals as goal
 use Rattle.tq_run.proofs.calls.enqueue.Goals.{In-Some, After-answer}

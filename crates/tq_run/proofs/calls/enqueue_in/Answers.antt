@@ -12,7 +12,7 @@ use Rattle.tq_model.specs.EnqueueStep.{enqueue_step, enqueue_refusal}
 use Rattle.tq_space.specs.Planned.{IsPlanOf, IsInsertOf}
 use Rattle.tq_spacefile.specs.File.{held_in}
 use Rattle.tq_run.specs.Calls.{refusal_in, full_log, enqueued_in, enqueue_refusal_in}
-use Rattle.tq_run.proofs.Calling.{IsPlanFor, meets_known, enqueue_planned, called_so, stops_so, stops_same}
+use Rattle.tq_run.proofs.CallLemmas.{IsPlanFor, meets_known, enqueue_planned, called_so, stops_so, stops_same}
 use Rattle.tq_run.proofs.calls.enqueue_in.Given.{Over}
 use Rattle.tq_run.proofs.calls.enqueue_in.Goals as goal
 use Rattle.tq_run.proofs.calls.enqueue_in.Goals.{After-take_answer-answer}

@@ -2,12 +2,12 @@ use Rattle.std.proofs.Common.{Some, None, refl, ap, rules}
 use Rattle.std.proofs.lemmas.Result.{IfOk-at_ok}
 use Rattle.tq_model.specs.Step.{create_device}
 use Rattle.tq_device.specs.declared.content.DeviceContent.{DeviceContent}
-use Rattle.tq_device.specs.Content.{Stands}
+use Rattle.tq_device.specs.Content.{HasContent}
 use Rattle.tq_run.specs.declared.manager.Manager.{Manager}
 use Rattle.tq_run.specs.Manager.{site_of}
 use Rattle.tq_run.proofs.CountLemmas.{of_ok, ok_before}
 use Rattle.tq_run.proofs.FoundLemmas.{blank_is_short}
-use Rattle.tq_run.proofs.Stopping.{nothing_done, creating, made_there, made_on}
+use Rattle.tq_run.proofs.DeviceStopLemmas.{nothing_done, creating, made_there, made_on}
 use Rattle.tq_run.proofs.devices.create_device.Goals as goal
 
 pub create-requires-clause-blank : goal.create-requires-clause-blank
@@ -34,7 +34,7 @@ returns-clause-holds g c = λ t.
     let m : Manager = record { content = Some d; file = None; next = 0 } in
     let image = (g.H.Host.view c.create.new.host).reads 0 in
     let ok = ok_before _ _ _ _ c.map_err.ensures.cases c.in_ok-content.was in
-    let stands : g.H.Host.tells.reads → Stands d image = IfOk-at_ok _ ok c.create.ensures.done in
+    let stands : g.H.Host.tells.reads → HasContent d image = IfOk-at_ok _ ok c.create.ensures.done in
     made_there m d image refl refl (ap (λ (x : DeviceContent). x.named) (IfOk-at_ok _ ok c.create.ensures.made)) (stands t)
 
 pub returns-clause-images : goal.returns-clause-images
@@ -43,5 +43,5 @@ returns-clause-images g c = λ t on.
     let m : Manager = record { content = Some d; file = None; next = 0 } in
     let new = g.H.Host.view c.create.new.host in
     let ok = ok_before _ _ _ _ c.map_err.ensures.cases c.in_ok-content.was in
-    let stands : g.H.Host.tells.reads → Stands d (new.reads 0) = IfOk-at_ok _ ok c.create.ensures.done in
+    let stands : g.H.Host.tells.reads → HasContent d (new.reads 0) = IfOk-at_ok _ ok c.create.ensures.done in
     made_on m d new refl refl (ap (λ (x : DeviceContent). x.named) (IfOk-at_ok _ ok c.create.ensures.made)) (of_ok c.create.result d _ ok c.create.ensures.settled) (stands t)

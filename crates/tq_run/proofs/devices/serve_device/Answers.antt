@@ -1,6 +1,6 @@
 use Rattle.tq_model.specs.Step.{device_step}
 use Rattle.tq_run.specs.Manager.{site_of}
-use Rattle.tq_run.proofs.Stopping.{nothing_done}
+use Rattle.tq_run.proofs.DeviceStopLemmas.{nothing_done}
 use Rattle.tq_run.proofs.devices.serve_device.Goals as goal
 
 pub returns-in_ok-answer-in-List-clause-stop : goal.returns-in_ok-answer-in-List-clause-stop

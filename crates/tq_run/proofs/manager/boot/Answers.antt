@@ -1,11 +1,11 @@
 use Rattle.std.proofs.Common.{◌<◌, ◌∙◌, List, ℕ, length, subst, ap, sym}
 use Rattle.std.proofs.lemmas.Result.{IfOk-weaker}
 use Rattle.tq_device.specs.declared.content.Found.{Found}
-use Rattle.tq_device.specs.Content.{IsFoundOn, IsFoundWithin, Stands}
+use Rattle.tq_device.specs.Content.{IsFoundOn, IsFoundWithin, HasContent}
 use Rattle.tq_run.proofs.FoundLemmas.{booted_blank, damaged_device, none_not_bootable}
-use Rattle.tq_run.proofs.Attending.{same_found}
+use Rattle.tq_run.proofs.RunDeviceLemmas.{same_found}
 use Rattle.tq_run.specs.Manager.{is_bootable}
-use Rattle.tq_run.proofs.Booting.{still_old, looking_booting, booted_from}
+use Rattle.tq_run.proofs.BootStopLemmas.{still_old, looking_booting, booted_from}
 use Rattle.tq_run.proofs.manager.boot.Goals as goal
 
 pub returns-in_err-look-clause-stop : goal.returns-in_err-look-clause-stop
@@ -31,7 +31,7 @@ boot_content-requires-clause-named g c = subst IsFoundWithin c.in-Holds.is c.in_
 pub boot_content-requires-clause-holds : goal.boot_content-requires-clause-holds
 boot_content-requires-clause-holds g c = λ t.
     let image = (g.H.Host.view c.args.host.now).reads 0 in
-    subst (λ (l : List ℕ). Stands c.in-Holds.content l) (sym (c.look.ensures.still 0)) (subst (λ (f : Found). IsFoundOn f image) c.in-Holds.is (c.in_ok-look.ensures.found t))
+    subst (λ (l : List ℕ). HasContent c.in-Holds.content l) (sym (c.look.ensures.still 0)) (subst (λ (f : Found). IsFoundOn f image) c.in-Holds.is (c.in_ok-look.ensures.found t))
 
 pub returns-in-Damaged-clause-damaged : goal.returns-in-Damaged-clause-damaged
 returns-in-Damaged-clause-damaged g c = λ e t.

@@ -2,7 +2,7 @@ use Rattle.std.proofs.Common.{List, ℕ, subst, sym}
 use Rattle.std.proofs.lemmas.Result.{IfOk-weaker}
 use Rattle.tq_run.specs.Manager.{IsLoaded}
 use Rattle.tq_run.proofs.FoundLemmas.{booted_raised, last_not_bootable}
-use Rattle.tq_run.proofs.Booting.{only_looking, looking_raising}
+use Rattle.tq_run.proofs.BootStopLemmas.{only_looking, looking_raising}
 use Rattle.tq_run.proofs.manager.boot_content.Goals as goal
 
 pub returns-in_err-file-clause-stop : goal.returns-in_err-file-clause-stop

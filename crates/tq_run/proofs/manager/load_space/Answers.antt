@@ -6,8 +6,8 @@ use Rattle.tq_spacefile.specs.declared.fault.FileError.{FileError}
 use Rattle.tq_spacefile.specs.declared.fault.FileError.TheVariants as files
 use Rattle.tq_spacefile.specs.File.{IsFile, place_in, has_space}
 use Rattle.tq_spacefile.specs.Place.{space_end}
-use Rattle.tq_run.specs.declared.status.Stop.{Stop}
-use Rattle.tq_run.specs.declared.status.Stop.TheVariants as stops
+use Rattle.tq_run.specs.declared.status.RunEnd.{RunEnd}
+use Rattle.tq_run.specs.declared.status.RunEnd.TheVariants as stops
 use Rattle.tq_run.specs.Counts.{StopCounts}
 use Rattle.tq_run.specs.Manager.{place_of, IsFileAt}
 use Rattle.tq_run.proofs.FoundLemmas.{damaged_space}
@@ -55,7 +55,7 @@ pub returns-in-Err-clause-counts : goal.returns-in-Err-clause-counts
 returns-in-Err-clause-counts g c =
     let a = g.H.Host.view c.args.host.now in
     let b = g.H.Host.view c.load.new.host in
-    subst (λ (s : Stop). StopCounts s a b) (sym c.stop_of.ensures) (subst (λ (q : Result SpaceFile FileError). LoadCounts q a b) c.in-Err.is (load_counts c.load.result a b c.load.ensures.quiet.rest.streams c.load.ensures.cause))
+    subst (λ (s : RunEnd). StopCounts s a b) (sym c.stop_of.ensures) (subst (λ (q : Result SpaceFile FileError). LoadCounts q a b) c.in-Err.is (load_counts c.load.result a b c.load.ensures.quiet.rest.streams c.load.ensures.cause))
 
 pub returns-in-Err-clause-three : goal.returns-in-Err-clause-three
 returns-in-Err-clause-three g c = λ damaged memory. c.stop_of.ensures ∙ three_stops c.in-Err.error (λ e. damaged (c.stop_of.ensures ∙ e)) (λ e. memory (c.stop_of.ensures ∙ e))

@@ -3,12 +3,12 @@ use Rattle.tq_host.specs.declared.host.Failed.{Failed}
 use Rattle.tq_host.specs.View.{IsSettled}
 use Rattle.tq_host.proofs.Within.{starts}
 use Rattle.tq_device.specs.declared.content.DeviceContent.{DeviceContent}
-use Rattle.tq_device.specs.Content.{Stands, IsAnyStep, IsSameButJournal, raised}
-use Rattle.tq_run.specs.Manager.{site_with, IsOn, IsContentOn, loaded_site}
+use Rattle.tq_device.specs.Content.{HasContent, IsAnyStep, IsSameButJournal, raised}
+use Rattle.tq_run.specs.Manager.{site_with, ImageMatches, IsContentOn, loaded_site}
 use Rattle.tq_run.specs.Stops.{IsFoundOrBooted}
 use Rattle.tq_run.proofs.CountLemmas.{of_ok}
-use Rattle.tq_run.proofs.Stopping.{any_steps}
-use Rattle.tq_run.proofs.Booting.{raising, raised_on, booted_is, loaded_stands}
+use Rattle.tq_run.proofs.DeviceStopLemmas.{any_steps}
+use Rattle.tq_run.proofs.BootStopLemmas.{raising, raised_on, booted_is, loaded_stands}
 use Rattle.tq_run.proofs.manager.raise.Goals as goal
 
 pub returns-then-content-clause-stop : goal.returns-then-content-clause-stop
@@ -31,12 +31,12 @@ returns-clause-raised g c = λ t.
     let d = c.in_ok-raised.raised in
     let ok : c.raise_epoch.result ≡ Ok d = search rules in
     let is : d ≡ raised content = subst (λ (q : Result DeviceContent Failed). IfOk q (λ x. x ≡ raised content)) ok c.raise_epoch.ensures.raised in
-    let stands : Stands d new = (subst (λ (q : Result DeviceContent Failed). IfOk q (λ x. g.H.Host.tells.reads → Stands x new)) ok c.raise_epoch.ensures.done) t in
+    let stands : HasContent d new = (subst (λ (q : Result DeviceContent Failed). IfOk q (λ x. g.H.Host.tells.reads → HasContent x new)) ok c.raise_epoch.ensures.done) t in
     let same : IsSameButJournal old new = of_ok c.raise_epoch.result d _ ok c.raise_epoch.ensures.kept t in
     record {
       below = search rules;
       site = ap (λ (x : DeviceContent). site_with (Some x) file 0) is ∙ sym (booted_is content file old (c.requires.holds t));
-      stands = subst (λ (x : DeviceContent). IsOn (record { content = Some x; file = file; next = 0 }) new) (sym is) (raised_on content file old new same (subst (λ (x : DeviceContent). Stands x new) is stands) (c.requires.holds t));
+      stands = subst (λ (x : DeviceContent). ImageMatches (record { content = Some x; file = file; next = 0 }) new) (sym is) (raised_on content file old new same (subst (λ (x : DeviceContent). HasContent x new) is stands) (c.requires.holds t));
     }
 
 pub returns-clause-on : goal.returns-clause-on
@@ -48,8 +48,8 @@ returns-clause-on g c = λ t image may.
     let d = c.in_ok-raised.raised in
     let ok : c.raise_epoch.result ≡ Ok d = search rules in
     let is : d ≡ raised content = subst (λ (q : Result DeviceContent Failed). IfOk q (λ x. x ≡ raised content)) ok c.raise_epoch.ensures.raised in
-    let stands : Stands d new = (subst (λ (q : Result DeviceContent Failed). IfOk q (λ x. g.H.Host.tells.reads → Stands x new)) ok c.raise_epoch.ensures.done) t in
+    let stands : HasContent d new = (subst (λ (q : Result DeviceContent Failed). IfOk q (λ x. g.H.Host.tells.reads → HasContent x new)) ok c.raise_epoch.ensures.done) t in
     let same : IsSameButJournal old new = of_ok c.raise_epoch.result d _ ok c.raise_epoch.ensures.kept t in
     let settled : IsSettled 0 (g.H.Host.view c.raise_epoch.new.host) = of_ok c.raise_epoch.result d _ ok c.raise_epoch.ensures.settled in
-    let here : IsOn (record { content = Some d; file = file; next = 0 }) new = subst (λ (x : DeviceContent). IsOn (record { content = Some x; file = file; next = 0 }) new) (sym is) (raised_on content file old new same (subst (λ (x : DeviceContent). Stands x new) is stands) (c.requires.holds t)) in
+    let here : ImageMatches (record { content = Some d; file = file; next = 0 }) new = subst (λ (x : DeviceContent). ImageMatches (record { content = Some x; file = file; next = 0 }) new) (sym is) (raised_on content file old new same (subst (λ (x : DeviceContent). HasContent x new) is stands) (c.requires.holds t)) in
     subst (λ (l : List ℕ). IsContentOn (Some d) file 0 l) (sym (settled image may)) here

@@ -5,8 +5,8 @@ use Rattle.tq_model.specs.Step.{create_queue, with_queue}
 use Rattle.tq_spacefile.specs.File.{held_in}
 use Rattle.tq_run.specs.Manager.{site_of}
 use Rattle.tq_run.specs.Calls.{queue_refusal_in, IsSameOrChanged, answer_of}
-use Rattle.tq_run.proofs.Stopping.{nothing_done}
-use Rattle.tq_run.proofs.CallSites.{IsNamedIn, IsAfter, named_in, file_on, files_on, queue_within, queue_after}
+use Rattle.tq_run.proofs.DeviceStopLemmas.{nothing_done}
+use Rattle.tq_run.proofs.CallStepLemmas.{IsNamedIn, IsAfter, named_in, file_on, files_on, queue_within, queue_after}
 use Rattle.tq_run.proofs.queues.create_queue.Given.{Over}
 use Rattle.tq_run.proofs.queues.create_queue.Goals as goal
 use Rattle.tq_run.proofs.queues.create_queue.Goals.{In-Some, After-answer}

@@ -11,7 +11,7 @@ use Rattle.tq_space.specs.Planned.{MeetsCreation}
 use Rattle.tq_spacefile.specs.File.{held_in}
 use Rattle.tq_run.specs.Calls.{full_log, queue_refusal_in, IsSameFile}
 use Rattle.tq_spacefile.specs.declared.file.SpaceFile.{SpaceFile}
-use Rattle.tq_run.proofs.Calling.{IsFreePlan, queue_planned, queue_taken, queue_full, queue_free, called_so, stops_so, stops_same}
+use Rattle.tq_run.proofs.CallLemmas.{IsFreePlan, queue_planned, queue_taken, queue_full, queue_free, called_so, stops_so, stops_same}
 use Rattle.tq_run.proofs.queues.create_queue_in.Given.{Over}
 use Rattle.tq_run.proofs.queues.create_queue_in.Goals as goal
 use Rattle.tq_run.proofs.queues.create_queue_in.Goals.{After-plan_queue}

@@ -1,21 +1,21 @@
 use Rattle.std.proofs.Common.{◌≡◌, ◌≢◌, List, [], ◌∷◌, ◌∙◌, ℕ, subst}
 use Rattle.tq_host.specs.View.{TellsAll}
 use Rattle.tq_model.specs.declared.request.Request.{Request}
-use Rattle.tq_model.specs.Faulty.{Failures}
+use Rattle.tq_model.specs.MachineWithFaults.{Failures}
 use Rattle.tq_model.specs.Site.{Site}
 use Rattle.tq_model.specs.Grammar.{script_requests}
-use Rattle.tq_run.specs.declared.status.Stop.{Stop}
-use Rattle.tq_run.specs.declared.status.Stop.TheVariants.{Memory, Input, Device, TooMuchInput}
+use Rattle.tq_run.specs.declared.status.RunEnd.{RunEnd}
+use Rattle.tq_run.specs.declared.status.RunEnd.TheVariants.{Memory, Input, Device, TooMuchInput}
 use Rattle.tq_run.specs.Counts.{IsQuiet}
 use Rattle.tq_run.specs.Turns.{Origin, RunsOver}
 use Rattle.tq_run.specs.Standing.{HasReached, HasRun}
 use Rattle.tq_run.proofs.CountLemmas.{on_ok, of_ok}
-use Rattle.tq_run.proofs.Going.{waiting_run, over_run, over_front, then_over, then_run, tells_on, tells_none}
-use Rattle.tq_run.proofs.States.{quiet_unless}
+use Rattle.tq_run.proofs.LineByLineLemmas.{waiting_run, over_run, over_front, then_over, then_run, tells_on, tells_none}
+use Rattle.tq_run.proofs.RespondLemmas.{quiet_unless}
 use Rattle.tq_run.proofs.running.answer_script.Goals as goal
 
-no_device : (stop : Stop) → ((stop ≢ Memory) → (stop ≢ Input) → stop ≡ TooMuchInput) → stop ≢ Device
-no_device stop three is = unlike (subst (λ (s : Stop). (s ≢ Memory) → (s ≢ Input) → s ≡ TooMuchInput) is three (λ e. cc) (λ e. cc))
+no_device : (stop : RunEnd) → ((stop ≢ Memory) → (stop ≢ Input) → stop ≡ TooMuchInput) → stop ≢ Device
+no_device stop three is = unlike (subst (λ (s : RunEnd). (s ≢ Memory) → (s ≢ Input) → s ≡ TooMuchInput) is three (λ e. cc) (λ e. cc))
   where
     unlike : Device ≡ TooMuchInput → ⊥
     unlike e = cc

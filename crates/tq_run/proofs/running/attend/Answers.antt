@@ -4,18 +4,18 @@ use Rattle.tq_model.specs.declared.request.Request.TheVariants.{Boot}
 use Rattle.tq_model.specs.Site.{Site}
 use Rattle.tq_model.specs.Grammar.{script_requests}
 use Rattle.tq_model.specs.Reading.{site_found}
-use Rattle.tq_run.specs.declared.status.Stop.{Stop}
-use Rattle.tq_run.specs.declared.status.Stop.TheVariants.{Device}
+use Rattle.tq_run.specs.declared.status.RunEnd.{RunEnd}
+use Rattle.tq_run.specs.declared.status.RunEnd.TheVariants.{Device}
 use Rattle.tq_run.specs.Counts.{IsQuiet, HasRunCounts}
 use Rattle.tq_run.specs.Ending.{IsDone}
 use Rattle.tq_run.specs.Turns.{origin_of, none_failed, RunsOver}
 use Rattle.tq_run.specs.Standing.{HasRun, HasStarted}
 use Rattle.tq_run.proofs.CountLemmas.{on_ok, of_ok, quiet_calm, stop_counts, run_counts_on}
-use Rattle.tq_run.proofs.Going.{over_front, then_over, run_started, is_done, tells_on}
-use Rattle.tq_run.proofs.Statuses.{line_0_ended, line_0_begun}
+use Rattle.tq_run.proofs.LineByLineLemmas.{over_front, then_over, run_started, is_done, tells_on}
+use Rattle.tq_run.proofs.StatusLemmas.{line_0_ended, line_0_begun}
 use Rattle.tq_run.proofs.running.attend.Goals as goal
 
-same_error : {T : Type 0} (stop : Stop) → ◌≡◌ {A = Result T Stop} (Err stop) (Err Device) → stop ≡ Device
+same_error : {T : Type 0} (stop : RunEnd) → ◌≡◌ {A = Result T RunEnd} (Err stop) (Err Device) → stop ≡ Device
 same_error stop e = cc
 
 pub returns-in_err-state-clause-stop : goal.returns-in_err-state-clause-stop
@@ -69,7 +69,7 @@ pub returns-in_err-state-clause-counts : goal.returns-in_err-state-clause-counts
 returns-in_err-state-clause-counts g c =
     let stop = c.in_err-state.field-0.0 in
     let same : c.from_residual.result ≡ Err stop = search rules in
-    subst (λ (r : Result (Unit {0}) Stop). HasRunCounts r (g.H.Host.view c.args.host.now) (g.H.Host.view c.begin.new.host)) (sym same) (stop_counts stop (g.H.Host.view c.args.host.now) (g.H.Host.view c.begin.new.host) c.in_err-state.ensures.counts)
+    subst (λ (r : Result (Unit {0}) RunEnd). HasRunCounts r (g.H.Host.view c.args.host.now) (g.H.Host.view c.begin.new.host)) (sym same) (stop_counts stop (g.H.Host.view c.args.host.now) (g.H.Host.view c.begin.new.host) c.in_err-state.ensures.counts)
 
 pub returns-clause-counts : goal.returns-clause-counts
 returns-clause-counts g c =

@@ -5,14 +5,14 @@ use Rattle.tq_host.specs.Within.{Ran}
 use Rattle.tq_model.specs.Text.{line_text}
 use Rattle.tq_model.specs.declared.answer.Answer.{Answer}
 use Rattle.tq_run.specs.Counts.{IsQuiet}
-use Rattle.tq_run.specs.declared.status.Stop.TheVariants.{Damaged}
+use Rattle.tq_run.specs.declared.status.RunEnd.TheVariants.{Damaged}
 use Rattle.tq_run.specs.Manager.{is_bootable}
-use Rattle.tq_run.proofs.Attending.{same_found, was_bootable}
+use Rattle.tq_run.proofs.RunDeviceLemmas.{same_found, was_bootable}
 use Rattle.tq_model.proofs.LineText.{length-line_text}
-use Rattle.tq_run.proofs.Beginning.{attach_over, boot_ended, first_over, first_started, calm_none, calm_given, begun_given}
-use Rattle.tq_run.proofs.Going.{tells_none, tells_given}
+use Rattle.tq_run.proofs.Line0Lemmas.{attach_over, boot_ended, first_over, first_started, calm_none, calm_given, begun_given}
+use Rattle.tq_run.proofs.LineByLineLemmas.{tells_none, tells_given}
 use Rattle.tq_run.proofs.CountLemmas.{of_ok, ok_before, at_err}
-use Rattle.tq_run.proofs.States.{quiet_unless}
+use Rattle.tq_run.proofs.RespondLemmas.{quiet_unless}
 use Rattle.tq_run.proofs.running.begin.Goals as goal
 
 pub returns-in_err-map_err-clause-stop : goal.returns-in_err-map_err-clause-stop

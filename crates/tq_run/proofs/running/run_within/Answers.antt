@@ -5,16 +5,16 @@ use Rattle.tq_model.specs.declared.request.Request.TheVariants.{Boot}
 use Rattle.tq_model.specs.Grammar.{script_requests}
 use Rattle.tq_run.specs.declared.status.Status.{Status}
 use Rattle.tq_run.specs.declared.status.Status.TheVariants as status
-use Rattle.tq_run.specs.declared.status.Stop.{Stop}
-use Rattle.tq_run.specs.declared.status.Stop.TheVariants.{Device}
+use Rattle.tq_run.specs.declared.status.RunEnd.{RunEnd}
+use Rattle.tq_run.specs.declared.status.RunEnd.TheVariants.{Device}
 use Rattle.tq_run.specs.Counts.{RoseDevice, HasRunCounts}
 use Rattle.tq_run.specs.Ending.{IsComplete, status_for}
 use Rattle.tq_run.specs.Turns.{IsOfLines, RunsOver, none_failed, origin_of}
-use Rattle.tq_run.proofs.Beginning.{calm_none}
+use Rattle.tq_run.proofs.Line0Lemmas.{calm_none}
 use Rattle.tq_run.proofs.CountLemmas.{read_cause, write_cause}
-use Rattle.tq_run.proofs.Going.{on_none, is_safe}
-use Rattle.tq_run.proofs.Statuses.{not_risen, damaged_always, complete, done, is_device}
-use Rattle.tq_run.proofs.Turning.{starts_answered}
+use Rattle.tq_run.proofs.LineByLineLemmas.{on_none, is_safe}
+use Rattle.tq_run.proofs.StatusLemmas.{not_risen, damaged_always, complete, done, is_device}
+use Rattle.tq_run.proofs.TurnLemmas.{starts_answered}
 use Rattle.tq_run.proofs.running.run_within.Goals as goal
 
 pub returns-in-None-clause-line_0 : goal.returns-in-None-clause-line_0
@@ -43,7 +43,7 @@ returns-in-Some-clause-device_fault g c = λ is.
     let old = g.H.Host.view c.args.host.now in
     let new = g.H.Host.view c.attend.new.host in
     let failed : c.attend.result ≡ Err Device = is_device c.attend.result (sym c.status_of.ensures ∙ is) in
-    let rose : RoseDevice old new = subst (λ (r : Result (Unit {0}) Stop). HasRunCounts r old new) failed c.attend.ensures.counts in
+    let rose : RoseDevice old new = subst (λ (r : Result (Unit {0}) RunEnd). HasRunCounts r old new) failed c.attend.ensures.counts in
     (rose.device.rose, c.attend.ensures.silent failed)
 
 pub returns-in-Some-clause-line_0 : goal.returns-in-Some-clause-line_0

@@ -1,7 +1,7 @@
 use Rattle.std.proofs.Common.{rules}
 use Rattle.tq_host.proofs.Running.{ran_start}
 use Rattle.tq_run.specs.Stops.{IsWaiting}
-use Rattle.tq_run.proofs.Waiting.{waits_on, no_new_on}
+use Rattle.tq_run.proofs.PictureLemmas.{waits_on, no_new_on}
 use Rattle.tq_run.proofs.script.read_script.Goals as goal
 
 pub loop-left-init : goal.loop-left-init

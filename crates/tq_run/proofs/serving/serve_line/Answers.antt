@@ -4,14 +4,14 @@ use Rattle.tq_host.specs.View.{TellsAll}
 use Rattle.tq_host.specs.Within.{Ran}
 use Rattle.tq_host.specs.Calls.{IsGiven, IsGiving}
 use Rattle.tq_model.specs.declared.request.Request.{Request}
-use Rattle.tq_model.specs.Faulty.{Failures}
+use Rattle.tq_model.specs.MachineWithFaults.{Failures}
 use Rattle.tq_model.specs.Site.{Site}
 use Rattle.tq_model.specs.Text.{line_text}
 use Rattle.tq_model.specs.Grammar.{line_request}
-use Rattle.tq_run.specs.Standing.{HasReached, HasRun, HasTurned, IsTurning, IsHeld}
+use Rattle.tq_run.specs.Standing.{HasReached, HasRun, HasTurned, IsTurning, ReadMatches}
 use Rattle.tq_run.specs.Turns.{Origin}
 use Rattle.tq_run.proofs.CountLemmas.{on_ok, of_ok, ok_before}
-use Rattle.tq_run.proofs.Going.{done_line, given_line, line_run, over_waiting}
+use Rattle.tq_run.proofs.LineByLineLemmas.{done_line, given_line, line_run, over_waiting}
 use Rattle.tq_run.proofs.serving.serve_line.Goals as goal
 
 pub returns-in_err-request-clause-stop : goal.returns-in_err-request-clause-stop
@@ -58,4 +58,4 @@ pub returns-clause-holds : goal.returns-clause-holds
 returns-clause-holds g c =
     let d = g.H.Host.view c.give_answer.new.host in
     let s = c.respond.new.state in
-    on_ok c.give_answer.result (g.H.Host.tells.reads → IsHeld s (d.reads 0)) (λ x ok. λ t. subst (λ (l : List ℕ). IsHeld s l) (sym (c.give_answer.ensures.still 0)) (c.in_ok-answer.ensures.holds t))
+    on_ok c.give_answer.result (g.H.Host.tells.reads → ReadMatches s (d.reads 0)) (λ x ok. λ t. subst (λ (l : List ℕ). ReadMatches s l) (sym (c.give_answer.ensures.still 0)) (c.in_ok-answer.ensures.holds t))

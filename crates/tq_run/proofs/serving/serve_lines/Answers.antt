@@ -3,7 +3,7 @@ use Rattle.std.specs.Prelude.{map}
 use Rattle.tq_model.specs.Grammar.{script_lines, script_requests, line_request}
 use Rattle.tq_run.specs.Counts.{IsCalm}
 use Rattle.tq_run.proofs.CountLemmas.{calm, calm_on}
-use Rattle.tq_run.proofs.Going.{IsSoFar, so_far_first, so_far_next, ends_here, over_run, all_run, tells_on, tells_none, requests_first}
+use Rattle.tq_run.proofs.LineByLineLemmas.{IsSoFar, so_far_first, so_far_next, ends_here, over_run, all_run, tells_on, tells_none, requests_first}
 use Rattle.tq_run.proofs.serving.serve_lines.Goals as goal
 
 pub loop-line-init : goal.loop-line-init

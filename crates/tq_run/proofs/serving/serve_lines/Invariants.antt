@@ -1,14 +1,14 @@
 use Rattle.std.proofs.Common.{◌≤◌, ◌+◌, ◌∷◌, [], length}
 use Rattle.tq_host.specs.View.{TellsAll}
 use Rattle.tq_model.specs.declared.request.Request.{Request}
-use Rattle.tq_model.specs.Faulty.{Failures}
+use Rattle.tq_model.specs.MachineWithFaults.{Failures}
 use Rattle.tq_model.specs.Site.{Site}
 use Rattle.tq_model.specs.Grammar.{script_requests}
 use Rattle.tq_run.specs.Counts.{IsCalm}
 use Rattle.tq_run.specs.Output.{TellsMore, KeepsInput}
 use Rattle.tq_run.specs.Turns.{Origin}
-use Rattle.tq_run.specs.Standing.{IsSound, next_of, IsHeld, HasReached}
-use Rattle.tq_run.proofs.Going.{IsSoFar}
+use Rattle.tq_run.specs.Standing.{IsWellFormed, next_of, ReadMatches, HasReached}
+use Rattle.tq_run.proofs.LineByLineLemmas.{IsSoFar}
 use Rattle.tq_run.proofs.serving.serve_lines.Given as goal
 
 abbrev pub invariant-loop-line : goal.invariant-loop-line
@@ -17,9 +17,9 @@ invariant-loop-line g l =
     let now = g.H.Host.view l.host in
     record {
       count : l.number + length l.rest ≤ length l.script + 1;
-      sound : IsSound l.state;
+      sound : IsWellFormed l.state;
       numbers : next_of l.state + length l.rest ≤ 4294967295;
-      holds : g.H.Host.tells.reads → IsHeld l.state (now.reads 0);
+      holds : g.H.Host.tells.reads → ReadMatches l.state (now.reads 0);
       input : KeepsInput start now;
       calm : IsCalm start now;
       told : g.H.Host.tells.output → TellsMore start now;

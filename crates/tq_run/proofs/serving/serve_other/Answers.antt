@@ -1,6 +1,6 @@
 use Rattle.tq_model.specs.Step.{step}
 use Rattle.tq_run.specs.Manager.{site_of}
-use Rattle.tq_run.proofs.Stopping.{nothing_done}
+use Rattle.tq_run.proofs.DeviceStopLemmas.{nothing_done}
 use Rattle.tq_run.proofs.serving.serve_other.Goals as goal
 
 pub returns-in-Nothing-clause-stop : goal.returns-in-Nothing-clause-stop

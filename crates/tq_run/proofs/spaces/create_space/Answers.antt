@@ -1,6 +1,6 @@
 use Rattle.tq_model.specs.Step.{create_space}
 use Rattle.tq_run.specs.Manager.{site_of}
-use Rattle.tq_run.proofs.Stopping.{nothing_done}
+use Rattle.tq_run.proofs.DeviceStopLemmas.{nothing_done}
 use Rattle.tq_run.proofs.spaces.create_space.Goals as goal
 
 pub returns-in-Err-clause-stop : goal.returns-in-Err-clause-stop

@@ -8,8 +8,8 @@ use Rattle.tq_run.specs.Spaces.{IsBareOrNew}
 use Rattle.tq_run.proofs.CountLemmas.{of_ok, ok_before, on_mapped}
 use Rattle.tq_device.proofs.Offered.{below_stands}
 use Rattle.tq_device.proofs.Longer.{longer_stands}
-use Rattle.tq_run.proofs.SpaceMaking.{growing, preparing, entering, still_bare, settled_all, formatted_kept}
-use Rattle.tq_run.proofs.Stopping.{any_steps}
+use Rattle.tq_run.proofs.SpaceCreationLemmas.{growing, preparing, entering, still_bare, settled_all, formatted_kept}
+use Rattle.tq_run.proofs.DeviceStopLemmas.{any_steps}
 use Rattle.tq_run.proofs.spaces.lay_out.Goals as goal
 
 pub returns-in_err-map_err-clause-stop : goal.returns-in_err-map_err-clause-stop

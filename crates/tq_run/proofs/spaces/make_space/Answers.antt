@@ -2,7 +2,7 @@ use Rattle.std.proofs.Common.{◌∙◌, sym, ap, subst, List, ℕ, arith}
 use Rattle.tq_model.specs.declared.space.Shape.{Shape}
 use Rattle.tq_run.specs.Spaces.{IsShape, HasNewSpace}
 use Rattle.tq_run.proofs.FoundLemmas.{content_stands}
-use Rattle.tq_run.proofs.SpaceMaking.{is_shape, making, new_answer, site_granted, new_site_of, new_file_on}
+use Rattle.tq_run.proofs.SpaceCreationLemmas.{is_shape, making, new_answer, site_granted, new_site_of, new_file_on}
 use Rattle.tq_run.proofs.spaces.make_space.Goals as goal
 
 pub lay_out-requires-clause-shape : goal.lay_out-requires-clause-shape

@@ -3,7 +3,7 @@ use Rattle.std.specs.Prelude.{MatchOption}
 use Rattle.std.specs.Vec.{with_items}
 use Rattle.std.proofs.lemmas.List.{with_items_is}
 use Rattle.tq_types.specs.declared.identifiers.Arrival.{Arrival}
-use Rattle.tq_model.specs.Site.{Site, Volume, Placed, space_named, with_space}
+use Rattle.tq_model.specs.Site.{Site, Volume, SpaceOnDevice, space_named, with_space}
 use Rattle.tq_model.specs.Step.{logged_with, next_arrival}
 use Rattle.tq_model.specs.Asked.{space_name, payload_length, space_after, placed_after, refusal_of, numbers_taken, numbered, granted_in}
 use Rattle.tq_model.specs.Tables.{AreSound, entry_of, entry_changed}
@@ -18,7 +18,7 @@ invariant_of-self-2 c =
     let entry = c.args.place.entry in
     let s : Site = record { identity = c.self.inside.identity; next = c.self.inside.next; clock = c.self.inside.clock; devices = c.self.inside.devices.items } in
     let there = ap (λ (t : Site). space_named (space_name asked) t) c.self.view_is ∙ c.requires.there ∙ sym (ap (λ (t : Site). entry_of (get_or t.devices dev None) entry) c.self.view_is) in
-    let found = some-of (λ (p : Placed). refusal_of asked c.args.self.now.clock p ≡ None) (space_named (space_name asked) c.args.self.now) c.requires.granted in
+    let found = some-of (λ (p : SpaceOnDevice). refusal_of asked c.args.self.now.clock p ≡ None) (space_named (space_name asked) c.args.self.now) c.requires.granted in
     let named = ap (λ (t : Site). space_named (space_name asked) t) c.self.view_is ∙ found.1 in
     let next = c.next_arrival-next.result in
     let devices = with_items_is c.self.inside.devices c.grant_at.new.devices (omega arith) ∙ c.in_ok-answer.ensures.devices
@@ -33,7 +33,7 @@ returns-clause-site c =
     let entry = c.args.place.entry in
     let s : Site = record { identity = c.self.inside.identity; next = c.self.inside.next; clock = c.self.inside.clock; devices = c.self.inside.devices.items } in
     let there = ap (λ (t : Site). space_named (space_name asked) t) c.self.view_is ∙ c.requires.there ∙ sym (ap (λ (t : Site). entry_of (get_or t.devices dev None) entry) c.self.view_is) in
-    let found = some-of (λ (p : Placed). refusal_of asked c.args.self.now.clock p ≡ None) (space_named (space_name asked) c.args.self.now) c.requires.granted in
+    let found = some-of (λ (p : SpaceOnDevice). refusal_of asked c.args.self.now.clock p ≡ None) (space_named (space_name asked) c.args.self.now) c.requires.granted in
     let named = ap (λ (t : Site). space_named (space_name asked) t) c.self.view_is ∙ found.1 in
     let next = c.next_arrival-next.result in
     let devices : (with_items c.self.inside.devices c.grant_at.new.devices).items ≡ (with_space (space_name asked) (logged_with (payload_length asked) (space_after asked s.clock next found.0.space)) s).devices =
@@ -46,4 +46,4 @@ returns-clause-site c =
     (λ i. record s { next = c.self.inside.next + c.numbers_taken.ensures.numbers i; devices = devices i })
     ∙ ap (λ (n : Arrival). let t : Site = record s { next = c.self.inside.next + numbers_taken asked; devices = (with_space (space_name asked) (logged_with (payload_length asked) (space_after asked s.clock n found.0.space)) s).devices } in t) is_next in
     subst (λ (t : Site). MatchOption (space_named (space_name asked) t) ⊥ (λ p. after ≡ (numbered asked (granted_in asked t p)).site)) c.self.view_is
-    (subst (λ (o : Option Placed). MatchOption o ⊥ (λ p. after ≡ (numbered asked (granted_in asked s p)).site)) (sym named) same)
+    (subst (λ (o : Option SpaceOnDevice). MatchOption o ⊥ (λ p. after ≡ (numbered asked (granted_in asked s p)).site)) (sym named) same)

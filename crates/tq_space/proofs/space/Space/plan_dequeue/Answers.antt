@@ -3,7 +3,7 @@ use Rattle.std.specs.Prelude.{option_copied, option_to_list, if◌then◌else◌
 use Rattle.std.specs.List.{find}
 use Rattle.tq_model.specs.declared.calls.CallAnswer.TheVariants.{BadQueue, NoMessage}
 use Rattle.tq_model.specs.declared.space.SpaceMove.TheVariants.{Remove}
-use Rattle.tq_model.specs.Moves.{IndexedQueue, item_of}
+use Rattle.tq_model.specs.Moves.{IndexedQueue, entry_view}
 use Rattle.tq_model.specs.DequeueStep.{can_answer}
 use Rattle.tq_space.specs.State.{SpaceState}
 use Rattle.tq_space.specs.Plain.{HasNoExpirations}
@@ -53,7 +53,7 @@ returns-in_default-answering-clause-step c =
     let q = named.0 in
     let found : find (indexed_named call.queue) held.queues ≡ Some q = subst (λ (l : List IndexedQueue). find (indexed_named call.queue) l ≡ Some q) view named.1 in
     let nothing : answer_in call clock (Some q) ≡ None =
-    ap (answer_in call clock) (sym named.1) ∙ sym c.answering.ensures.entry ∙ ap (λ o. option_map item_of (option_copied o)) c.in_default-answering.is in
+    ap (answer_in call clock) (sym named.1) ∙ sym c.answering.ensures.entry ∙ ap (λ o. option_map entry_view (option_copied o)) c.in_default-answering.is in
     dequeue_refused held call clock NoMessage c.new-in_default-answering.result c.new-in_default-answering.ensures
     (dequeue_refusal_is held lasting call clock (Some q) found None nothing) (dequeue_is held lasting call clock (Some q) found None nothing)
 
@@ -68,7 +68,7 @@ returns-in_default-answering-clause-granted c =
     let q = named.0 in
     let found : find (indexed_named call.queue) held.queues ≡ Some q = subst (λ (l : List IndexedQueue). find (indexed_named call.queue) l ≡ Some q) view named.1 in
     let nothing : answer_in call clock (Some q) ≡ None =
-    ap (answer_in call clock) (sym named.1) ∙ sym c.answering.ensures.entry ∙ ap (λ o. option_map item_of (option_copied o)) c.in_default-answering.is in
+    ap (answer_in call clock) (sym named.1) ∙ sym c.answering.ensures.entry ∙ ap (λ o. option_map entry_view (option_copied o)) c.in_default-answering.is in
     let some = (dequeue_refused held call clock NoMessage c.new-in_default-answering.result c.new-in_default-answering.ensures
     (dequeue_refusal_is held lasting call clock (Some q) found None nothing) (dequeue_is held lasting call clock (Some q) found None nothing)).0 in
     λ granted refused. let clash = sym some ∙ granted in cc
@@ -83,7 +83,7 @@ returns-clause-step c =
     let named = some_of named_of (find (indexed_named call.queue) c.self.inside.shelf.queues) c.in-Some._queue (sym c.in-Some.ensures.named) in
     let q = named.0 in
     let found : find (indexed_named call.queue) held.queues ≡ Some q = subst (λ (l : List IndexedQueue). find (indexed_named call.queue) l ≡ Some q) view named.1 in
-    let item = item_of c.in-Some-answering.entry.now in
+    let item = entry_view c.in-Some-answering.entry.now in
     let answers : answer_in call clock (Some q) ≡ Some item = ap (answer_in call clock) (sym named.1) ∙ sym c.in-Some-answering.ensures.entry in
     dequeue_planned held call clock item c.in-Ok-plan_of.plan
     (dequeue_refusal_is held lasting call clock (Some q) found (Some item) answers)
@@ -101,7 +101,7 @@ returns-clause-moves c =
     let named = some_of named_of (find (indexed_named call.queue) c.self.inside.shelf.queues) c.in-Some._queue (sym c.in-Some.ensures.named) in
     let q = named.0 in
     let found : find (indexed_named call.queue) held.queues ≡ Some q = subst (λ (l : List IndexedQueue). find (indexed_named call.queue) l ≡ Some q) view named.1 in
-    let item = item_of c.in-Some-answering.entry.now in
+    let item = entry_view c.in-Some-answering.entry.now in
     let answers : answer_in call clock (Some q) ≡ Some item = ap (answer_in call clock) (sym named.1) ∙ sym c.in-Some-answering.ensures.entry in
     let among : IsAmong item held = record {
       queue = q;
@@ -114,5 +114,5 @@ returns-clause-moves c =
       within = among;
       holds = among_held item held among;
       moves = c.in-Ok-plan_of.ensures.moves ∙ ap option_to_list c.removal-item.ensures
-          ∙ elim call.peek as (λ b. option_to_list (if b then None else Some (Remove item.letter.id)) ≡ (if b then [] else Remove item.letter.id ∷ [])) [ true ↦ refl | false ↦ refl ];
+          ∙ elim call.peek as (λ b. option_to_list (if b then None else Some (Remove item.message.id)) ≡ (if b then [] else Remove item.message.id ∷ [])) [ true ↦ refl | false ↦ refl ];
     }

@@ -1,5 +1,5 @@
 use Rattle.std.proofs.Common.{◌≡◌, ◌+◌, ◌-◌, List, ℕ, Result, Ok, Err, OnErr, length, refl, sym, ap, subst, ◌∙◌}
-use Rattle.tq_model.specs.Plain.{IsOwn, IsPlainSpace}
+use Rattle.tq_model.specs.Plain.{IsOwn, KeepsAllAtCrash}
 use Rattle.tq_model.specs.SpaceForm.{log_bytes, spelt}
 use Rattle.tq_model.proofs.RecordMoves.{moved_plain}
 use Rattle.tq_gate.specs.Log.{free_in, IsSameLog}
@@ -41,7 +41,7 @@ invariant_of-self-2 g c =
     let held : c.apply.new.self.held ≡ with_record r (held_in f) = c.apply.ensures.held ∙ ap (plan_applied c.args.plan) c.prepare.ensures.held ∙ recorded_applied (held_in f) c.args.plan r c.requires.recorded.1 in
     record {
       own = subst IsOwn (sym held) (moved_own (held_in f) r f.own);
-      plain = subst IsPlainSpace (sym held) (moved_plain (held_in f) r f.plain);
+      plain = subst KeepsAllAtCrash (sym held) (moved_plain (held_in f) r f.plain);
       placed = f.placed;
       layout = c.append.ensures.layout ∙ f.layout;
     }

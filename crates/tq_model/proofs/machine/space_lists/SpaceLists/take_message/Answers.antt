@@ -4,12 +4,12 @@ use Rattle.std.specs.Vec.{with_items}
 use Rattle.std.proofs.lemmas.List.{with_items_is}
 use Rattle.tq_model.specs.Held.{space_view, IsWithinLimits}
 use Rattle.tq_model.specs.Space.{Space, Queue, queue_named, purged_queue, without}
-use Rattle.tq_model.specs.Moves.{item_of}
+use Rattle.tq_model.specs.Moves.{entry_view}
 use Rattle.tq_model.specs.Step.{dequeue_call}
 use Rattle.tq_model.specs.EnqueueStep.{CallOutcome}
 use Rattle.tq_model.specs.DequeueStep.{dequeue_step, dequeue_refusal}
 use Rattle.tq_model.proofs.Limits.{within-taken}
-use Rattle.tq_model.proofs.SpaceSteps.{dequeue-queue, dequeue-item, dequeue-granted}
+use Rattle.tq_model.proofs.SpaceSteps.{dequeue-queue, dequeue-entry, dequeue-granted}
 use Rattle.tq_model.proofs.machine.space_lists.SpaceLists.take_message.Goals as goal
 
 pub unreachable-requires : goal.unreachable-requires
@@ -27,7 +27,7 @@ unreachable-requires-in_default-eligible c =
     let clock = c.args.clock in
     let granted = ap (λ (t : Space). dequeue_refusal t (dequeue_call w) clock) c.self.view_is ∙ c.requires in
     let found = ap (queue_named w.queue) (sym c.deref.ensures.value) ∙ sym c.in-Some.ensures in
-    dequeue-item s w clock c.in-Some.queue.now granted found (sym c.eligible.ensures ∙ ap (λ (o : Option _). option_map item_of (option_copied o)) c.in_default-eligible.is)
+    dequeue-entry s w clock c.in-Some.queue.now granted found (sym c.eligible.ensures ∙ ap (λ (o : Option _). option_map entry_view (option_copied o)) c.in_default-eligible.is)
 
 pub invariant_of-self : goal.invariant_of-self
 invariant_of-self c =
@@ -46,7 +46,7 @@ returns-clause-answer c =
     let found = ap (queue_named w.queue) (sym c.deref.ensures.value) ∙ sym c.in-Some.ensures in
     let first = sym c.in-Some-eligible.ensures in
     c.in_ok-delivery.ensures
-    ∙ sym (ap (λ (o : CallOutcome). o.answer) (dequeue-granted s w clock c.in-Some.queue.now (item_of c.in-Some-eligible.entry.now) found first))
+    ∙ sym (ap (λ (o : CallOutcome). o.answer) (dequeue-granted s w clock c.in-Some.queue.now (entry_view c.in-Some-eligible.entry.now) found first))
     ∙ ap (λ (t : Space). (dequeue_step t (dequeue_call w) clock).answer) c.self.view_is
 
 pub returns-clause-space : goal.returns-clause-space
@@ -60,5 +60,5 @@ returns-clause-space c =
     let found = ap (queue_named w.queue) (sym c.deref.ensures.value) ∙ sym c.in-Some.ensures in
     let first = sym c.in-Some-eligible.ensures in
     ap (λ (l : List Queue). let after : Space = record s { queues = l } in after) queues
-    ∙ sym (ap (λ (o : CallOutcome). o.space) (dequeue-granted s w clock c.in-Some.queue.now (item_of c.in-Some-eligible.entry.now) found first))
+    ∙ sym (ap (λ (o : CallOutcome). o.space) (dequeue-granted s w clock c.in-Some.queue.now (entry_view c.in-Some-eligible.entry.now) found first))
     ∙ ap (λ (t : Space). (dequeue_step t (dequeue_call w) clock).space) c.self.view_is

@@ -9,22 +9,22 @@ use Rattle.tq_model.specs.declared.request.Request.TheVariants.{Boot}
 use Rattle.tq_model.specs.Site.{Site, durable}
 use Rattle.tq_model.specs.Step.{Outcome, can_boot, booted, boot, ready, with_next_epoch}
 use Rattle.tq_model.specs.Reading.{site_found}
-use Rattle.tq_model.specs.Faulty.{Condition, Up, Down, Turn, boot_turn, reboot_turn, StandFor, turn_at}
+use Rattle.tq_model.specs.MachineWithFaults.{Condition, Up, Down, Turn, boot_turn, reboot_turn, HaveSite, turn_at}
 use Rattle.tq_model.proofs.Images.{found_durable}
 use Rattle.tq_device.specs.Content.{IsAnyStep}
 use Rattle.tq_run.specs.declared.manager.Manager.{Manager}
 use Rattle.tq_run.specs.declared.state.State.{State}
 use Rattle.tq_run.specs.declared.state.State.TheVariants as states
-use Rattle.tq_run.specs.declared.status.Stop.{Stop}
-use Rattle.tq_run.specs.declared.status.Stop.TheVariants as stops
+use Rattle.tq_run.specs.declared.status.RunEnd.{RunEnd}
+use Rattle.tq_run.specs.declared.status.RunEnd.TheVariants as stops
 use Rattle.tq_run.specs.Counts.{Rises, IsQuiet, StopCounts}
 use Rattle.tq_run.specs.Manager.{site_of, is_bootable, IsBooted}
-use Rattle.tq_run.specs.Stops.{ImageStands, IsOldOrBooted, AreOn}
-use Rattle.tq_run.specs.Turns.{ImageStandsFor, turn_between, IsBeforeOrAfter}
-use Rattle.tq_run.specs.Standing.{IsIn, HasTurned, IsTurning}
-use Rattle.tq_run.proofs.Booting.{read_stands}
-use Rattle.tq_run.proofs.States.{no_cause, its_cause, twice, images_in}
-use Rattle.tq_run.proofs.Stopping.{any_steps}
+use Rattle.tq_run.specs.Stops.{HasSite, IsOldOrBooted, ImagesMatch}
+use Rattle.tq_run.specs.Turns.{HasCondition, turn_between, IsBeforeOrAfter}
+use Rattle.tq_run.specs.Standing.{StateMatches, HasTurned, IsTurning}
+use Rattle.tq_run.proofs.BootStopLemmas.{read_stands}
+use Rattle.tq_run.proofs.RespondLemmas.{no_cause, its_cause, twice, images_in}
+use Rattle.tq_run.proofs.DeviceStopLemmas.{any_steps}
 
 -- Some element of a list
 
@@ -69,12 +69,12 @@ abbrev pub sites_in : Condition → List Site
 sites_in (Up s) = s ∷ []
 sites_in (Down sites) = sites
 
-stand_in : (c : Condition) (image : List ℕ) → ImageStandsFor c image → Any (λ s. ImageStands s image) (sites_in c)
-stand_in (Up s) image stands = any_first (λ s. ImageStands s image) s [] stands
+stand_in : (c : Condition) (image : List ℕ) → HasCondition c image → Any (λ s. HasSite s image) (sites_in c)
+stand_in (Up s) image stands = any_first (λ s. HasSite s image) s [] stands
 stand_in (Down sites) image any = any
 
-stand_for : (c : Condition) (image : List ℕ) → Any (λ s. ImageStands s image) (sites_in c) → ImageStandsFor c image
-stand_for (Up s) image any = ⊎_elim (λ stands. stands) (λ none. absurd (any_none (λ s. ImageStands s image) none)) (any_split (λ s. ImageStands s image) s [] any)
+stand_for : (c : Condition) (image : List ℕ) → Any (λ s. HasSite s image) (sites_in c) → HasCondition c image
+stand_for (Up s) image any = ⊎_elim (λ stands. stands) (λ none. absurd (any_none (λ s. HasSite s image) none)) (any_split (λ s. HasSite s image) s [] any)
 stand_for (Down sites) image any = any
 
 -- Boots of one site
@@ -126,7 +126,7 @@ module _ (images : ℕ → List ℕ) (found s : Site) (is : site_found 1 images 
 -- Turns
 
 -- no device failed
-quiet_turn : (c : Condition) (images : ℕ → List ℕ) (found : Site) → site_found 1 images ≡ Some found → ImageStandsFor c (images 0) → turn_between false images c Boot ≡ boot_turn found
+quiet_turn : (c : Condition) (images : ℕ → List ℕ) (found : Site) → site_found 1 images ≡ Some found → HasCondition c (images 0) → turn_between false images c Boot ≡ boot_turn found
 quiet_turn (Up s) images found is stands = sym (same_turn images found s is stands)
 quiet_turn (Down sites) images found is stands = ap (λ (o : Option Site). reboot_turn false o sites) is
 
@@ -136,34 +136,34 @@ rose_answer (Up s) found = refl
 rose_answer (Down sites) found = refl
 
 -- an image after that
-rose_image : (c : Condition) (images : ℕ → List ℕ) (found : Site) (o : Option Site) (image : List ℕ) → site_found 1 images ≡ Some found → ImageStandsFor c (images 0) → IsOldOrBooted (sites_in c) found image → ImageStandsFor (turn_at true o c Boot).condition image
+rose_image : (c : Condition) (images : ℕ → List ℕ) (found : Site) (o : Option Site) (image : List ℕ) → site_found 1 images ≡ Some found → HasCondition c (images 0) → IsOldOrBooted (sites_in c) found image → HasCondition (turn_at true o c Boot).condition image
 rose_image (Up s) images found o image is stands has =
     let before = durable s in
     let after = durable (boot s).site in
     ⊎_elim
     (λ old.
-    let on : ImageStands s image = stand_for (Up s) image old in
-    any_first (StandFor 1 (λ d. image)) before (after ∷ []) (twice s image on))
+    let on : HasSite s image = stand_for (Up s) image old in
+    any_first (HaveSite 1 (λ d. image)) before (after ∷ []) (twice s image on))
     (λ (raisable, new).
     let made : booted found ≡ (boot s).site = same_booted images found s is stands ∙ sym (site_up s (sym (same_raisable images found s is stands) ∙ raisable)) in
-    let on : ImageStands (boot s).site image = subst (λ (x : Site). ImageStands x image) made new in
-    any_later (StandFor 1 (λ d. image)) before (after ∷ []) (any_first (StandFor 1 (λ d. image)) after [] (twice (boot s).site image on))) has
+    let on : HasSite (boot s).site image = subst (λ (x : Site). HasSite x image) made new in
+    any_later (HaveSite 1 (λ d. image)) before (after ∷ []) (any_first (HaveSite 1 (λ d. image)) after [] (twice (boot s).site image on))) has
 rose_image (Down sites) images found o image is stands has =
     ⊎_elim
-    (λ old. any_ahead (StandFor 1 (λ d. image)) sites (map booted (filter can_boot sites)) old)
-    (λ (raisable, new). any_behind (StandFor 1 (λ d. image)) sites (map booted (filter can_boot sites))
-    (any_made booted can_boot (λ s. ImageStands s (images 0)) (StandFor 1 (λ d. image)) sites
-    (λ s on. (sym (same_raisable images found s is on) ∙ raisable, subst (λ (x : Site). ImageStands x image) (same_booted images found s is on) new)) stands)) has
+    (λ old. any_ahead (HaveSite 1 (λ d. image)) sites (map booted (filter can_boot sites)) old)
+    (λ (raisable, new). any_behind (HaveSite 1 (λ d. image)) sites (map booted (filter can_boot sites))
+    (any_made booted can_boot (λ s. HasSite s (images 0)) (HaveSite 1 (λ d. image)) sites
+    (λ s on. (sym (same_raisable images found s is on) ∙ raisable, subst (λ (x : Site). HasSite x image) (same_booted images found s is on) new)) stands)) has
 
 -- and the state in memory is down
-rose_in : (c : Condition) (o : Option Site) (v : View) → ((image : List ℕ) → v.may_leave 0 image → ImageStandsFor (turn_at true o c Boot).condition image) → IsIn states.Down (turn_at true o c Boot).condition v
+rose_in : (c : Condition) (o : Option Site) (v : View) → ((image : List ℕ) → v.may_leave 0 image → HasCondition (turn_at true o c Boot).condition image) → StateMatches states.Down (turn_at true o c Boot).condition v
 rose_in (Up s) o v are = are
 rose_in (Down sites) o v are = are
 
 -- A boot
 
 -- the ways in which one ends without a site that are none of the device
-pub other_stop : (e : Stop) (old new : View) → e ≢ stops.Device → ((e ≢ stops.Damaged) → (e ≢ stops.Memory) → e ≡ stops.Device) → StopCounts e old new → IsQuiet old new
+pub other_stop : (e : RunEnd) (old new : View) → e ≢ stops.Device → ((e ≢ stops.Damaged) → (e ≢ stops.Memory) → e ≡ stops.Device) → StopCounts e old new → IsQuiet old new
 other_stop stops.Damaged old new not three counts = counts
 other_stop stops.Memory old new not three counts = counts
 other_stop stops.TooMuchInput old new not three counts = counts
@@ -172,12 +172,12 @@ other_stop stops.Input old new not three counts = absurd (not (three (λ e. cc) 
 other_stop stops.Output old new not three counts = absurd (not (three (λ e. cc) (λ e. cc)))
 
 module _ {tells : Told} (t : TellsAll tells) (old new : View) (lawful : IsLawful tells old) (state : State) where
-  module _ (c : Condition) (is : IsIn state c old) where
-    read_is : ImageStandsFor c (old.reads 0)
+  module _ (c : Condition) (is : StateMatches state c old) where
+    read_is : HasCondition c (old.reads 0)
     read_is = images_in state c old (old.reads 0) is (lawful.reads_an_image t.stops 0)
 
     -- what is read stands for one of the sites
-    found_is : (s : Site) × ImageStands s (old.reads 0)
+    found_is : (s : Site) × HasSite s (old.reads 0)
     found_is = let (k, s, below, at, on) = stand_in c (old.reads 0) read_is in (s, on)
 
     found : Site
@@ -200,27 +200,27 @@ module _ {tells : Told} (t : TellsAll tells) (old new : View) (lawful : IsLawful
     is_damaged : is_bootable (site_found 1 old.reads) ≡ false → turn_between false old.reads c Boot ≡ damaged_turn found
     is_damaged lost = turn_is ∙ turn_damaged found (ap is_bootable (sym is_found) ∙ lost)
 
-    damaged_in : is_bootable (site_found 1 old.reads) ≡ false → ((image : List ℕ) → new.may_leave 0 image → image ≡ old.reads 0) → IsIn states.Down (turn_between false old.reads c Boot).condition new
+    damaged_in : is_bootable (site_found 1 old.reads) ≡ false → ((image : List ℕ) → new.may_leave 0 image → image ≡ old.reads 0) → StateMatches states.Down (turn_between false old.reads c Boot).condition new
     damaged_in lost settled =
-        subst (λ (u : Turn). IsIn states.Down u.condition new) (sym (is_damaged lost))
-        (λ image may. any_first (StandFor 1 (λ d. image)) (durable found) [] (read_stands old.reads (durable found) image (is_found ∙ ap (λ (s : Site). Some s) (sym (found_durable old.reads found is_found))) (settled image may)))
+        subst (λ (u : Turn). StateMatches states.Down u.condition new) (sym (is_damaged lost))
+        (λ image may. any_first (HaveSite 1 (λ d. image)) (durable found) [] (read_stands old.reads (durable found) image (is_found ∙ ap (λ (s : Site). Some s) (sym (found_durable old.reads found is_found))) (settled image may)))
 
-    failed_image : (image : List ℕ) → IsOldOrBooted (sites_in c) found image → ImageStandsFor (turn_between true old.reads c Boot).condition image
+    failed_image : (image : List ℕ) → IsOldOrBooted (sites_in c) found image → HasCondition (turn_between true old.reads c Boot).condition image
     failed_image image has = rose_image c old.reads found (site_found 1 old.reads) image is_found read_is has
 
-  module _ (boots : (sites : List Site) → ((image : List ℕ) → old.may_leave 0 image → Any (λ s. ImageStands s image) sites) → (s : Site) → site_found 1 old.reads ≡ Some s → Within 0 IsAnyStep (IsOldOrBooted sites s) old new) where
-    within : (c : Condition) (is : IsIn state c old) → Within 0 IsAnyStep (IsOldOrBooted (sites_in c) (found c is)) old new
+  module _ (boots : (sites : List Site) → ((image : List ℕ) → old.may_leave 0 image → Any (λ s. HasSite s image) sites) → (s : Site) → site_found 1 old.reads ≡ Some s → Within 0 IsAnyStep (IsOldOrBooted sites s) old new) where
+    within : (c : Condition) (is : StateMatches state c old) → Within 0 IsAnyStep (IsOldOrBooted (sites_in c) (found c is)) old new
     within c is = boots (sites_in c) (λ image may. stand_in c image (images_in state c old image is may)) (found c is) (is_found c is)
 
     -- the pictures where no device failed
-    quiet_within : (c : Condition) → IsIn state c old → Within 0 IsAnyStep (IsBeforeOrAfter c (turn_between false old.reads c Boot)) old new
+    quiet_within : (c : Condition) → StateMatches state c old → Within 0 IsAnyStep (IsBeforeOrAfter c (turn_between false old.reads c Boot)) old new
     quiet_within c is =
         weaker 0 IsAnyStep any_steps (IsOldOrBooted (sites_in c) (found c is)) (IsBeforeOrAfter c (turn_between false old.reads c Boot)) old new (λ i image was has. ⊎_elim
         (λ before. inl (stand_for c image before))
-        (λ (raisable, on). inr (subst (λ (u : Turn). ImageStandsFor u.condition image) (sym (turn_is c is ∙ turn_up (found c is) raisable)) on)) has) (within c is)
+        (λ (raisable, on). inr (subst (λ (u : Turn). HasCondition u.condition image) (sym (turn_is c is ∙ turn_up (found c is) raisable)) on)) has) (within c is)
 
     -- and where one did
-    failed_within : (c : Condition) → IsIn state c old → Within 0 IsAnyStep (IsBeforeOrAfter c (turn_between true old.reads c Boot)) old new
+    failed_within : (c : Condition) → StateMatches state c old → Within 0 IsAnyStep (IsBeforeOrAfter c (turn_between true old.reads c Boot)) old new
     failed_within c is =
         weaker 0 IsAnyStep any_steps (IsOldOrBooted (sites_in c) (found c is)) (IsBeforeOrAfter c (turn_between true old.reads c Boot)) old new (λ i image was has. ⊎_elim
         (λ before. inl (stand_for c image before))
@@ -233,12 +233,12 @@ module _ {tells : Told} (t : TellsAll tells) (old new : View) (lawful : IsLawful
     failed_stop rises = record { failed = true; cause = its_cause old.faults new.faults rises; within = failed_within }
 
     -- up again
-    pub booted_turn : IsQuiet old new → (m : Manager) → IsBooted m old new → AreOn m new → HasTurned state (states.Up m) Boot (ready (site_of m)) old new
+    pub booted_turn : IsQuiet old new → (m : Manager) → IsBooted m old new → ImagesMatch m new → HasTurned state (states.Up m) Boot (ready (site_of m)) old new
     booted_turn quiet m boot on = record {
       failed = false;
       cause = no_cause old.faults new.faults quiet.device;
       answer = λ c is. sym (ap (λ (u : Turn). u.answer) (is_up c is m boot));
-      then = λ c is. subst (λ (u : Turn). IsIn (states.Up m) u.condition new) (sym (is_up c is m boot)) (record { site = refl; on = on });
+      then = λ c is. subst (λ (u : Turn). StateMatches (states.Up m) u.condition new) (sym (is_up c is m boot)) (record { site = refl; on = on });
       within = quiet_within;
     }
 

@@ -31,7 +31,7 @@ use Rattle.tq_model.specs.declared.record.SpaceRecord.TheVariants.{Added, Gone, 
 use Rattle.tq_model.specs.declared.space.SpaceMove.{SpaceMove}
 use Rattle.tq_model.specs.Space.{Space}
 use Rattle.tq_model.specs.Moves.{IndexedSpace, space_of, has_index, moved_by, purged_of}
-use Rattle.tq_model.specs.Plain.{IsPlainSpace, IsOwn, IsBefore, IsNewer}
+use Rattle.tq_model.specs.Plain.{KeepsAllAtCrash, IsOwn, IsBefore, IsNewer}
 use Rattle.tq_model.specs.Reading.{Replayed, space_start, log_start}
 use Rattle.tq_model.specs.SpaceForm.{raw_space, shape_of, log_bytes, empty_space, replayed, spelt, id_in, plain_entry, move_of, holds_arrival, holds_name, can_follow, added_length, gone_length, made_length, longest_body}
 use Rattle.tq_model.specs.EnqueueStep.{CallOutcome}
@@ -146,7 +146,7 @@ made_is index name = simp (length-append {A = ℕ}, length-digits) (omega arith)
 
 -- ---- an enqueue
 
-module _ (words : EnqueueWords) (ask : EnqueueAsk) (outcome : CallOutcome) (s : IndexedSpace) (plan : Plan) (is_call : ask.call ≡ enqueue_call words 0) (plain : IsPlainSpace s)
+module _ (words : EnqueueWords) (ask : EnqueueAsk) (outcome : CallOutcome) (s : IndexedSpace) (plan : Plan) (is_call : ask.call ≡ enqueue_call words 0) (plain : KeepsAllAtCrash s)
     (short : length words.body ≤ longest_body) (insert : IsInsertOf ask s plan) (meets : IsPlanOf outcome s plan) where
   abbrev added : SpaceRecord
   added = Added insert.queue.index ask.next words.body
@@ -186,9 +186,9 @@ module _ (words : EnqueueWords) (ask : EnqueueAsk) (outcome : CallOutcome) (s : 
 module _ (words : DequeueWords) (ask : DequeueAsk) (outcome : CallOutcome) (s : IndexedSpace) (plan : Plan) (is_call : ask.call ≡ dequeue_call words) (own : IsOwn s)
     (removal : IsRemovalOf ask s plan) (meets : IsPlanOf outcome s plan) where
   abbrev gone : SpaceRecord
-  gone = Gone (arrival_of removal.item.letter.id)
+  gone = Gone (arrival_of removal.item.message.id)
 
-  said : (plan.moves ≡ move_of s (Gone (arrival_of removal.item.letter.id)) ∷ []) × (holds_arrival s (arrival_of removal.item.letter.id) ≡ true)
+  said : (plan.moves ≡ move_of s (Gone (arrival_of removal.item.message.id)) ∷ []) × (holds_arrival s (arrival_of removal.item.message.id) ≡ true)
   said = removal_recorded ask s plan (ap (λ (call : DequeueCall). call.peek) is_call) own removal
 
   pub dequeue_planned : (other : Plan) → other.purge ≡ plan.purge → other.moves ≡ plan.moves → IsFreePlan s gone_length outcome.space other
@@ -196,9 +196,9 @@ module _ (words : DequeueWords) (ask : DequeueAsk) (outcome : CallOutcome) (s : 
     r = gone;
     recorded = same_recorded s plan other gone same_purge same_moves (one_recorded outcome s plan gone removal.purge said.0 meets tt);
     is = λ epoch number. record {
-      length_is = gone_is (arrival_of removal.item.letter.id);
+      length_is = gone_is (arrival_of removal.item.message.id);
       space = one_space outcome s plan gone removal.purge said.0 meets;
-      newer = ids_gone (IsBefore epoch number) s (arrival_of removal.item.letter.id);
+      newer = ids_gone (IsBefore epoch number) s (arrival_of removal.item.message.id);
       follows = λ some newer. said.1;
     };
     follows = λ epoch. said.1;

@@ -13,16 +13,16 @@ use Rattle.tq_model.specs.Text.{line_text}
 use Rattle.tq_model.specs.Grammar.{script_lines, script_requests, line_request}
 use Rattle.tq_model.specs.Reading.{reading, combined, site_found}
 use Rattle.tq_model.specs.declared.request.Request.TheVariants.{Boot}
-use Rattle.tq_model.specs.Faulty.{Condition, Up, Down, Failures, Turn, turn_at, found_at, StandForState}
+use Rattle.tq_model.specs.MachineWithFaults.{Condition, Up, Down, Failures, Turn, turn_at, found_at, HaveCondition}
 use Rattle.tq_run.specs.declared.state.State.{State}
 use Rattle.tq_run.specs.Output.{TellsMore}
 use Rattle.tq_run.specs.Stops.{HasNoNewImage, IsWaiting, IsOfRun, IsCrashSafe}
 use Rattle.tq_run.specs.Ending.{IsDone, trace_of}
-use Rattle.tq_run.specs.Turns.{Origin, origin_of, none_failed, ImageStandsFor, IsOfLines, GoesOn, RunsOver, turn_between, trace_from, told_after}
-use Rattle.tq_run.specs.Standing.{IsIn, HasTurned, IsTurning, HasReached, HasRun, HasStarted}
-use Rattle.tq_run.proofs.Booting.{read_stands}
-use Rattle.tq_run.proofs.Turning.{starts_answered, turn_told, still_answered, ran_more, of_answered_more, only_done, line_since, line_on, line_stamps, line_failures, line_pictures, line_answered}
-use Rattle.tq_run.proofs.States.{images_in, still_in}
+use Rattle.tq_run.specs.Turns.{Origin, origin_of, none_failed, HasCondition, IsOfLines, GoesOn, RunsOver, turn_between, trace_from, told_after}
+use Rattle.tq_run.specs.Standing.{StateMatches, HasTurned, IsTurning, HasReached, HasRun, HasStarted}
+use Rattle.tq_run.proofs.BootStopLemmas.{read_stands}
+use Rattle.tq_run.proofs.TurnLemmas.{starts_answered, turn_told, still_answered, ran_more, of_answered_more, only_done, line_since, line_on, line_stamps, line_failures, line_pictures, line_answered}
+use Rattle.tq_run.proofs.RespondLemmas.{images_in, still_in}
 
 module _ (o : Origin) (found : Site) (failed : Failures) (done : List Request) (r : Request) (state : State) (a b : View) (reached : HasReached o found failed done state a) where
   -- a line that came to no answer
@@ -41,7 +41,7 @@ module _ (o : Origin) (found : Site) (failed : Failures) (done : List Request) (
     told : turn_at turned.failed (found_at (trace_from o a.faults reached.answered.added) (length reached.answered.added)) reached.condition r ≡ t
     told = turn_told reached.answered reached.some turned.failed r
 
-    is_in : IsIn state' t.condition b
+    is_in : StateMatches state' t.condition b
     is_in = turned.then reached.condition reached.is
 
     module _ (k : ℕ) (given : IsGiven k (line_text (length done) answer) b d) (gives : Ran (IsGiving (line_text (length done) answer) b d) b d) where
@@ -97,7 +97,7 @@ of_front o now found failed done rest p is =
       stamps = is.stamps;
       lines = is.lines;
       within = omega (arith, is.within, length-append done rest);
-      stand = subst (λ (l : List Request). StandForState 1 p.images (told_after o now.faults is.added failed found l).condition) (sym front) is.stand;
+      stand = subst (λ (l : List Request). HaveCondition 1 p.images (told_after o now.faults is.added failed found l).condition) (sym front) is.stand;
       given = is.given;
       gave = is.gave ∙ ap (λ (l : List Request). o.output ++ take is.given (told_after o now.faults is.added failed found l).text) (sym front);
       answered = subst (λ (l : List Request). length (told_after o now.faults is.added failed found l).text ≤ is.given) (sym less) is.answered;
@@ -256,11 +256,11 @@ is_done start now found failed state lawful t left reached = record {
   failures = reached.answered.failures;
   script = left;
   output = reached.answered.output;
-  devices = subst (λ (c : Condition). StandForState 1 now.reads c) (sym reached.answered.condition)
+  devices = subst (λ (c : Condition). HaveCondition 1 now.reads c) (sym reached.answered.condition)
       (as_read now.reads reached.condition (images_in state reached.condition now (now.reads 0) reached.is (lawful.reads_an_image t.stops 0)));
 }
   where
-    as_read : (images : ℕ → List ℕ) (c : Condition) → ImageStandsFor c (images 0) → StandForState 1 images c
+    as_read : (images : ℕ → List ℕ) (c : Condition) → HasCondition c (images 0) → HaveCondition 1 images c
     as_read images (Up s) is = is
     as_read images (Down sites) is = is
 

@@ -4,7 +4,7 @@ use Rattle.std.specs.Prelude.{map, nat_lt, ◌==◌}
 use Rattle.std.proofs.lemmas.Bool.Decides.{nat_tests}
 use Rattle.tq_host.specs.View.{Stamp, last}
 use Rattle.tq_host.specs.Calls.{Rose, HasCauseOf}
-use Rattle.tq_model.specs.Faulty.{Trace, Failures, count_before, count_at, rose_at}
+use Rattle.tq_model.specs.MachineWithFaults.{Trace, Failures, count_before, count_at, rose_at}
 use Rattle.tq_run.specs.Failures.{AreFailures}
 use Rattle.tq_run.specs.Turns.{Origin, none_failed, trace_from}
 

@@ -112,10 +112,10 @@ abbrev pub machine_after : Trace → Failures → Site → List Request → ℕ 
 machine_after trace failed s requests k = after trace failed (beginning s) (take k (Boot ∷ requests))
 
 -- Images, one per device, stand for a site.
-abbrev pub StandFor : ℕ → (ℕ → List ℕ) → Site → Type 0
-StandFor devices images s = site_found devices images ≡ Some (durable s)
+abbrev pub HaveSite : ℕ → (ℕ → List ℕ) → Site → Type 0
+HaveSite devices images s = site_found devices images ≡ Some (durable s)
 
 -- they stand for a state: its site, or one of its sites
-abbrev pub StandForState : ℕ → (ℕ → List ℕ) → Condition → Type 0
-StandForState devices images (Up s) = StandFor devices images s
-StandForState devices images (Down sites) = Any (StandFor devices images) sites
+abbrev pub HaveCondition : ℕ → (ℕ → List ℕ) → Condition → Type 0
+HaveCondition devices images (Up s) = HaveSite devices images s
+HaveCondition devices images (Down sites) = Any (HaveSite devices images) sites

@@ -10,11 +10,11 @@ use Rattle.tq_model.specs.declared.request.Request.{Request}
 use Rattle.tq_model.specs.Site.{Site}
 use Rattle.tq_model.specs.Text.{line_text}
 use Rattle.tq_model.specs.Reading.{site_found}
-use Rattle.tq_model.specs.Faulty.{Condition, Up, Down, Trace, Failures, Turn, Progress, count_before, count_at, found_at, turn, advance, after, beginning, StandForState, turn_at}
+use Rattle.tq_model.specs.MachineWithFaults.{Condition, Up, Down, Trace, Failures, Turn, Progress, count_before, count_at, found_at, turn, advance, after, beginning, HaveCondition, turn_at}
 use Rattle.tq_model.proofs.LineText.{length-line_text}
 use Rattle.tq_run.specs.Failures.{AreFailures}
-use Rattle.tq_run.specs.Turns.{ImageStandsFor, IsBeforeOrAfter, Origin, origin_of, none_failed, GoesOn, IsAnswered, IsOfLines, RunsOver, turn_between, trace_from, told_after}
-use Rattle.tq_run.proofs.Choices.{faults_of, next_choice, before_next, at_next, failures_next, get_or_told, get_or_next, count_last, count_same, none_failing}
+use Rattle.tq_run.specs.Turns.{HasCondition, IsBeforeOrAfter, Origin, origin_of, none_failed, GoesOn, IsAnswered, IsOfLines, RunsOver, turn_between, trace_from, told_after}
+use Rattle.tq_run.proofs.FailureAccountLemmas.{faults_of, next_choice, before_next, at_next, failures_next, get_or_told, get_or_next, count_last, count_same, none_failing}
 
 abbrev reads_of : Stamp → ℕ → List ℕ
 reads_of s = s.reads
@@ -129,7 +129,7 @@ one_or_none zero = inr refl
 one_or_none (suc n) = inl (omega arith)
 
 -- an image stands for a condition, as the image of device 0 in a picture
-stands_first : (images : ℕ → List ℕ) (c : Condition) → ImageStandsFor c (images 0) → StandForState 1 images c
+stands_first : (images : ℕ → List ℕ) (c : Condition) → HasCondition c (images 0) → HaveCondition 1 images c
 stands_first images (Up s) is = is
 stands_first images (Down sites) is = is
 
@@ -193,7 +193,7 @@ module _ {o : Origin} {found : Site} {failed : Failures} {done : List Request} {
           stamps = more_stamps o mid new answered.added more answered.stamps stamps;
           lines = is.lines;
           within = omega (arith, is.within, length-append done rest);
-          stand = subst (λ (q : Progress). StandForState 1 p.images q.condition) (at is.lines front) is.stand;
+          stand = subst (λ (q : Progress). HaveCondition 1 p.images q.condition) (at is.lines front) is.stand;
           given = is.given;
           gave = is.gave ∙ ap (λ (q : Progress). o.output ++ take is.given q.text) (at is.lines front);
           answered = subst (λ (q : Progress). length q.text ≤ is.given) (at (is.lines - 1) less) is.answered;
@@ -203,7 +203,7 @@ module _ {o : Origin} {found : Site} {failed : Failures} {done : List Request} {
     ran_more rest from ran = ran_weaker (IsOfLines o mid found failed done) (IsOfLines o new found since (done ++ rest)) from mid (of_more rest) ran
 
   -- a picture in which these lines are answered and nothing was done since
-  pub of_answered : (p : Picture) → ImageStandsFor c (p.images 0) → p.output ≡ mid.streams.output → IsOfLines o mid found failed done p
+  pub of_answered : (p : Picture) → HasCondition c (p.images 0) → p.output ≡ mid.streams.output → IsOfLines o mid found failed done p
   of_answered p stands output =
       let all : take (length done) done ≡ done = take_all (length done) done (omega arith) in
       let is : told_after o mid.faults answered.added failed found done ≡ told_after o mid.faults answered.added failed found (take (length done) done) = ap (told_after o mid.faults answered.added failed found) (sym all) in
@@ -212,14 +212,14 @@ module _ {o : Origin} {found : Site} {failed : Failures} {done : List Request} {
         stamps = answered.stamps;
         lines = length done;
         within = omega arith;
-        stand = stands_first p.images _ (subst (λ (x : Condition). ImageStandsFor x (p.images 0)) (sym answered.condition ∙ ap (λ (q : Progress). q.condition) is) stands);
+        stand = stands_first p.images _ (subst (λ (x : Condition). HasCondition x (p.images 0)) (sym answered.condition ∙ ap (λ (q : Progress). q.condition) is) stands);
         given = length text;
         gave = output ∙ answered.output ∙ ap (λ (t : List ℕ). o.output ++ t) (sym (take_all (length text) text (omega arith)) ∙ ap (λ (q : Progress). take (length text) q.text) is);
         answered = text-take (trace_from o mid.faults answered.added) failed (length done - 1) done (beginning found);
       }
 
   -- as it is told later, with lines behind them
-  pub of_answered_more : (new : View) (more : List Stamp) → new.streams.stamps ≡ mid.streams.stamps ++ more → (since : Failures) → GoesOn o mid failed since → (rest : List Request) (p : Picture) → ImageStandsFor c (p.images 0) → p.output ≡ mid.streams.output
+  pub of_answered_more : (new : View) (more : List Stamp) → new.streams.stamps ≡ mid.streams.stamps ++ more → (since : Failures) → GoesOn o mid failed since → (rest : List Request) (p : Picture) → HasCondition c (p.images 0) → p.output ≡ mid.streams.output
       → IsOfLines o new found since (done ++ rest) p
   of_answered_more new more stamps since on rest p stands output = of_more new more stamps since on rest p (of_answered p stands output)
 
@@ -276,7 +276,7 @@ module _ {o : Origin} {found : Site} {failed : Failures} {done : List Request} {
         ∙ ap (λ k. told_turn text k t) (told_line o mid.faults answered.added failed found done)
 
     -- a picture in which the line is done and some first part of its answer is given
-    pub of_next : (p : Picture) (count : ℕ) → ImageStandsFor t.condition (p.images 0) → p.output ≡ mid.streams.output ++ take count (line_text (length done) t.answer) → IsOfLines o new found since (done ++ r ∷ []) p
+    pub of_next : (p : Picture) (count : ℕ) → HasCondition t.condition (p.images 0) → p.output ≡ mid.streams.output ++ take count (line_text (length done) t.answer) → IsOfLines o new found since (done ++ r ∷ []) p
     of_next p count stands output =
         let line = line_text (length done) t.answer in
         let all : take (length (done ++ r ∷ [])) (done ++ r ∷ []) ≡ done ++ r ∷ [] = take_all (length (done ++ r ∷ [])) (done ++ r ∷ []) (omega arith) in
@@ -291,7 +291,7 @@ module _ {o : Origin} {found : Site} {failed : Failures} {done : List Request} {
           stamps = more_stamps o mid new answered.added more answered.stamps stamps;
           lines = length (done ++ r ∷ []);
           within = omega arith;
-          stand = subst (λ (q : Progress). StandForState 1 p.images q.condition) told_all (stands_first p.images t.condition stands);
+          stand = subst (λ (q : Progress). HaveCondition 1 p.images q.condition) told_all (stands_first p.images t.condition stands);
           given = length text + count;
           gave =
               output ∙ ap (λ (l : List ℕ). l ++ take count line) answered.output ∙ append_assoc o.output text (take count line)
@@ -350,7 +350,7 @@ module _ {o : Origin} {found : Site} {failed : Failures} {done : List Request} {
 
     -- the pictures of the whole line
     pub line_pictures : {S : List ℕ → List ℕ → Type 0} → Within 0 S (IsBeforeOrAfter c t) a b
-        → ((image : List ℕ) → b.may_leave 0 image → ImageStandsFor t.condition image)
+        → ((image : List ℕ) → b.may_leave 0 image → HasCondition t.condition image)
         → ((dev : ℕ) (image : List ℕ) → d.may_leave dev image → b.may_leave dev image)
         → Ran (IsGiving (line_text (length done) t.answer) b d) b d
         → Ran (IsOfLines o d found line_since (done ++ r ∷ [])) a d

@@ -3,15 +3,15 @@ use Rattle.std.proofs.Common.{◌≡◌, ◌≢◌, ◌⊎◌, inl, inr, List, �
 use Rattle.tq_host.specs.View.{View, Stamp}
 use Rattle.tq_host.specs.Calls.{Rose}
 use Rattle.tq_model.specs.Reading.{site_found}
-use Rattle.tq_model.specs.Faulty.{rose_at}
+use Rattle.tq_model.specs.MachineWithFaults.{rose_at}
 use Rattle.tq_run.specs.declared.status.Status.TheVariants as status
-use Rattle.tq_run.specs.declared.status.Stop.{Stop}
-use Rattle.tq_run.specs.declared.status.Stop.TheVariants.{Damaged, Memory, Input, Output, Device, TooMuchInput}
+use Rattle.tq_run.specs.declared.status.RunEnd.{RunEnd}
+use Rattle.tq_run.specs.declared.status.RunEnd.TheVariants.{Damaged, Memory, Input, Output, Device, TooMuchInput}
 use Rattle.tq_run.specs.Counts.{NoneRose, HasRunCounts}
 use Rattle.tq_run.specs.Ending.{trace_of, status_for, FailsInLine0, IsComplete}
 use Rattle.tq_run.specs.Manager.{is_bootable}
 use Rattle.tq_run.specs.Output.{TellsMore, HasBegun}
-use Rattle.tq_run.proofs.Beginning.{calm_begun}
+use Rattle.tq_run.proofs.Line0Lemmas.{calm_begun}
 
 unlike : (b : Bool) → b ≡ true → b ≡ false → ⊥
 unlike b is isnt = cc
@@ -19,7 +19,7 @@ unlike b is isnt = cc
 -- Line 0
 
 -- A part of a run that ended in line 0 failed there exactly where it is said so.
-pub line_0_ended : (stop : Stop) (start now : View) → (stop ≡ Device → now.streams.output ≡ start.streams.output)
+pub line_0_ended : (stop : RunEnd) (start now : View) → (stop ≡ Device → now.streams.output ≡ start.streams.output)
     → ((stop ≢ Device) → (added : List Stamp) → now.streams.stamps ≡ start.streams.stamps ++ added → rose_at (trace_of start now added) 0 ≡ false) → FailsInLine0 (stop ≡ Device) start now
 line_0_ended Device start now silent calm added is rose = (refl, silent refl)
 line_0_ended Damaged start now silent calm added is rose = absurd (unlike _ rose (calm (λ e. cc) added is))
@@ -35,7 +35,7 @@ not_risen start now added rose calm = absurd (unlike _ rose calm)
 pub line_0_begun : (ended : Type 0) (a b d : View) → HasBegun a b → TellsMore b d → FailsInLine0 ended a d
 line_0_begun ended a b d begun more added is rose = absurd (unlike _ rose (calm_begun a b d begun more added is))
 
-pub damaged_always : (r : Result (Unit {0}) Stop) (old new : View) (tells : Type 0) → ((r ≢ Err Damaged) → (r ≢ Err Device) → (r ≢ Err Memory) → tells → is_bootable (site_found 1 old.reads) ≡ true) → HasRunCounts r old new
+pub damaged_always : (r : Result (Unit {0}) RunEnd) (old new : View) (tells : Type 0) → ((r ≢ Err Damaged) → (r ≢ Err Device) → (r ≢ Err Memory) → tells → is_bootable (site_found 1 old.reads) ≡ true) → HasRunCounts r old new
     → tells → is_bootable (site_found 1 old.reads) ≡ false → (Rose old.faults new.faults → ⊥) → (status_for r ≡ status.Damaged 0) ⊎ (status_for r ≡ status.NoMemory)
 damaged_always (Ok x) old new tells bootable counts t none calm = absurd (unlike _ (bootable (λ e. cc) (λ e. cc) (λ e. cc) t) none)
 damaged_always (Err Damaged) old new tells bootable counts t none calm = inl refl
@@ -45,7 +45,7 @@ damaged_always (Err Output) old new tells bootable counts t none calm = absurd (
 damaged_always (Err Device) old new tells bootable counts t none calm = absurd (calm counts.device.rose)
 damaged_always (Err TooMuchInput) old new tells bootable counts t none calm = absurd (unlike _ (bootable (λ e. cc) (λ e. cc) (λ e. cc) t) none)
 
-pub complete : (r : Result (Unit {0}) Stop) (old new : View) (tells : Type 0) → (r ≡ Err Damaged → tells → is_bootable (site_found 1 old.reads) ≡ false) → HasRunCounts r old new
+pub complete : (r : Result (Unit {0}) RunEnd) (old new : View) (tells : Type 0) → (r ≡ Err Damaged → tells → is_bootable (site_found 1 old.reads) ≡ false) → HasRunCounts r old new
     → tells → is_bootable (site_found 1 old.reads) ≡ true → NoneRose old new → IsComplete (status_for r)
 complete (Ok x) old new tells damaged counts t can calm = tt
 complete (Err Damaged) old new tells damaged counts t can calm = unlike _ can (damaged refl t)
@@ -55,7 +55,7 @@ complete (Err Output) old new tells damaged counts t can calm = calm.output coun
 complete (Err Device) old new tells damaged counts t can calm = calm.device counts.device.rose
 complete (Err TooMuchInput) old new tells damaged counts t can calm = tt
 
-pub done : (r : Result (Unit {0}) Stop) (D : Type 0) → OnOk r D → status_for r ≡ status.Done → D
+pub done : (r : Result (Unit {0}) RunEnd) (D : Type 0) → OnOk r D → status_for r ≡ status.Done → D
 done (Ok x) D is e = is
 done (Err Damaged) D is e = absurd (cc)
 done (Err Memory) D is e = absurd (cc)
@@ -65,7 +65,7 @@ done (Err Device) D is e = absurd (cc)
 done (Err TooMuchInput) D is e = absurd (cc)
 
 -- only a failed device ends a run with that status
-pub is_device : (r : Result (Unit {0}) Stop) → status_for r ≡ status.DeviceFault → r ≡ Err Device
+pub is_device : (r : Result (Unit {0}) RunEnd) → status_for r ≡ status.DeviceFault → r ≡ Err Device
 is_device (Ok x) e = absurd (cc)
 is_device (Err Damaged) e = absurd (cc)
 is_device (Err Memory) e = absurd (cc)

@@ -11,12 +11,12 @@ use Rattle.tq_model.specs.declared.answer.Answer.TheVariants as answers
 use Rattle.tq_model.specs.declared.answer.DeviceAnswer.TheVariants as device_answers
 use Rattle.tq_model.specs.Step.{Outcome, creation_refusal, create_device, unless_refused, with_new_device, new_volume, site_asked}
 use Rattle.tq_device.specs.declared.content.DeviceContent.{DeviceContent}
-use Rattle.tq_device.specs.Content.{IsAnyStep, IsBlankOrNew, Stands, new_content}
+use Rattle.tq_device.specs.Content.{IsAnyStep, IsBlankOrNew, HasContent, new_content}
 use Rattle.tq_run.specs.declared.manager.Manager.{Manager}
 use Rattle.tq_device.specs.declared.content.NamedSpace.{NamedSpace}
 use Rattle.tq_spacefile.specs.declared.file.SpaceFile.{SpaceFile}
-use Rattle.tq_run.specs.Manager.{site_of, site_with, site_at, IsOn, IsContentOn, IsFileOn}
-use Rattle.tq_run.specs.Stops.{IsEither, AreOn}
+use Rattle.tq_run.specs.Manager.{site_of, site_with, site_at, ImageMatches, IsContentOn, IsFileOn}
+use Rattle.tq_run.specs.Stops.{IsEither, ImagesMatch}
 use Rattle.tq_run.proofs.FoundLemmas.{blank_found, image_bare, part_of_stands, image_stands}
 
 -- any step of an image
@@ -24,7 +24,7 @@ pub any_steps : IsSteps IsAnyStep
 any_steps = record { none = λ c. tt; both = λ a b c first second. tt }
 
 -- where nothing is done
-pub nothing_done : (m : Manager) (s : Site) (v : View) → AreOn m v → Within 0 IsAnyStep (IsEither (site_of m) s) v v
+pub nothing_done : (m : Manager) (s : Site) (v : View) → ImagesMatch m v → Within 0 IsAnyStep (IsEither (site_of m) s) v v
 nothing_done m s v on = starts 0 IsAnyStep any_steps (IsEither (site_of m) s) v (λ c may. inl (image_stands m c (on c may)))
 
 -- The site after a creation that nothing refuses
@@ -51,11 +51,11 @@ creating creation m site old new blank zero_dev granted asked within =
     ∙ ap (λ (s : Site). Some (durable s)) (sym (made_site creation m blank zero_dev granted)))) is) within
 
 -- a device that was made, on an image that holds it
-pub made_there : (m : Manager) (d : DeviceContent) (image : List ℕ) → m.content ≡ Some d → m.file ≡ None → d.named ≡ None → Stands d image → IsOn m image
+pub made_there : (m : Manager) (d : DeviceContent) (image : List ℕ) → m.content ≡ Some d → m.file ≡ None → d.named ≡ None → HasContent d image → ImageMatches m image
 made_there m d image is bare none stands =
     let fits : IsFileOn d d.named None m.next image = subst (λ (n : Option NamedSpace). IsFileOn d n None m.next image) (sym none) tt in
     subst (λ (content : Option DeviceContent). IsContentOn content m.file m.next image) (sym is) (subst (λ (file : Option SpaceFile). IsContentOn (Some d) file m.next image) (sym bare) (record { stands = stands; space = fits }))
 
 -- and on each image
-pub made_on : (m : Manager) (d : DeviceContent) (v : View) → m.content ≡ Some d → m.file ≡ None → d.named ≡ None → IsSettled 0 v → Stands d (v.reads 0) → AreOn m v
-made_on m d v is bare none settled stands = λ image may. made_there m d image is bare none (subst (λ (l : List ℕ). Stands d l) (sym (settled image may)) stands)
+pub made_on : (m : Manager) (d : DeviceContent) (v : View) → m.content ≡ Some d → m.file ≡ None → d.named ≡ None → IsSettled 0 v → HasContent d (v.reads 0) → ImagesMatch m v
+made_on m d v is bare none settled stands = λ image may. made_there m d image is bare none (subst (λ (l : List ℕ). HasContent d l) (sym (settled image may)) stands)

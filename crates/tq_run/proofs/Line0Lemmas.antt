@@ -13,25 +13,25 @@ use Rattle.tq_model.specs.Site.{Site, durable}
 use Rattle.tq_model.specs.Step.{step, booted, can_boot, ready}
 use Rattle.tq_model.specs.Text.{line_text}
 use Rattle.tq_model.specs.Reading.{site_found}
-use Rattle.tq_model.specs.Faulty.{Up, Failures, Turn, failing_turn, boot_turn, rose_at, turn_at}
+use Rattle.tq_model.specs.MachineWithFaults.{Up, Failures, Turn, failing_turn, boot_turn, rose_at, turn_at}
 use Rattle.tq_device.specs.Content.{IsAnyStep}
 use Rattle.tq_run.specs.declared.manager.Manager.{Manager}
 use Rattle.tq_run.specs.declared.state.State.TheVariants as states
-use Rattle.tq_run.specs.declared.status.Stop.{Stop}
-use Rattle.tq_run.specs.declared.status.Stop.TheVariants.{Damaged, Memory, Input, Output, Device, TooMuchInput}
+use Rattle.tq_run.specs.declared.status.RunEnd.{RunEnd}
+use Rattle.tq_run.specs.declared.status.RunEnd.TheVariants.{Damaged, Memory, Input, Output, Device, TooMuchInput}
 use Rattle.tq_run.specs.Counts.{StopCounts}
 use Rattle.tq_run.specs.Ending.{trace_of}
 use Rattle.tq_run.specs.Output.{TellsMore, HasBegun}
 use Rattle.tq_run.specs.Manager.{site_of, IsBooted}
-use Rattle.tq_run.specs.Stops.{ImageStands, AreOn, HasNoNewImage, IsOldOrBooted}
-use Rattle.tq_run.specs.Turns.{ImageStandsFor, IsBeforeOrAfter, IsOfLines, RunsOver, origin_of, none_failed}
-use Rattle.tq_run.specs.Standing.{IsIn, HasStarted}
-use Rattle.tq_run.proofs.Attending.{same_found}
-use Rattle.tq_run.proofs.Booting.{read_stands}
-use Rattle.tq_run.proofs.Rebooting.{turn_up, site_up}
-use Rattle.tq_run.proofs.States.{twice, calm, no_cause, its_cause, images_in, still_in}
-use Rattle.tq_run.proofs.Stopping.{any_steps}
-use Rattle.tq_run.proofs.Turning.{starts_answered, only_done, line_since, line_on, line_stamps, line_failures, line_pictures, line_answered}
+use Rattle.tq_run.specs.Stops.{HasSite, ImagesMatch, HasNoNewImage, IsOldOrBooted}
+use Rattle.tq_run.specs.Turns.{HasCondition, IsBeforeOrAfter, IsOfLines, RunsOver, origin_of, none_failed}
+use Rattle.tq_run.specs.Standing.{StateMatches, HasStarted}
+use Rattle.tq_run.proofs.RunDeviceLemmas.{same_found}
+use Rattle.tq_run.proofs.BootStopLemmas.{read_stands}
+use Rattle.tq_run.proofs.BootTurnLemmas.{turn_up, site_up}
+use Rattle.tq_run.proofs.RespondLemmas.{twice, calm, no_cause, its_cause, images_in, still_in}
+use Rattle.tq_run.proofs.DeviceStopLemmas.{any_steps}
+use Rattle.tq_run.proofs.TurnLemmas.{starts_answered, only_done, line_since, line_on, line_stamps, line_failures, line_pictures, line_answered}
 
 -- the turn of line 0
 abbrev pub first_turn : Bool → Site → Turn
@@ -46,10 +46,10 @@ cause_of_call : {T E : Type 0} (before now : ℕ) (r : Result T E) → HasCause 
 cause_of_call before now (Ok x) cause = (false, no_cause before now cause.ok)
 cause_of_call before now (Err e) cause = (true, its_cause before now (record { later = cause.later; rose = cause.failed }))
 
-cause_of_stop : (stop : Stop) (before : ℕ) (b d : View) → b.faults ≡ before → StopCounts stop b d → (fails : Bool) × HasCauseOf (fails ≡ true) before d.faults
+cause_of_stop : (stop : RunEnd) (before : ℕ) (b d : View) → b.faults ≡ before → StopCounts stop b d → (fails : Bool) × HasCauseOf (fails ≡ true) before d.faults
 cause_of_stop stop before b d same counts = subst (λ n. (fails : Bool) × HasCauseOf (fails ≡ true) n d.faults) same (by_stop stop counts)
   where
-    by_stop : (stop : Stop) → StopCounts stop b d → (fails : Bool) × HasCauseOf (fails ≡ true) b.faults d.faults
+    by_stop : (stop : RunEnd) → StopCounts stop b d → (fails : Bool) × HasCauseOf (fails ≡ true) b.faults d.faults
     by_stop Device counts = (true, its_cause b.faults d.faults counts.device)
     by_stop Damaged counts = (false, no_cause b.faults d.faults counts.device)
     by_stop Memory counts = (false, no_cause b.faults d.faults counts.device)
@@ -58,19 +58,19 @@ cause_of_stop stop before b d same counts = subst (λ n. (fails : Bool) × HasCa
     by_stop TooMuchInput counts = (false, no_cause b.faults d.faults counts.device)
 
 -- an image of a boot is one of line 0's
-image_of_boot : (rose : Bool) (s : Site) (image : List ℕ) → can_boot s ≡ true → ImageStands (booted s) image → ImageStandsFor (first_turn rose s).condition image
-image_of_boot true s image can is = (1, durable (step s Boot).site, omega arith, refl, twice (step s Boot).site image (subst (λ (x : Site). ImageStands x image) (sym (site_up s can)) is))
-image_of_boot false s image can is = subst (λ (t : Turn). ImageStandsFor t.condition image) (sym (turn_up s can)) is
+image_of_boot : (rose : Bool) (s : Site) (image : List ℕ) → can_boot s ≡ true → HasSite (booted s) image → HasCondition (first_turn rose s).condition image
+image_of_boot true s image can is = (1, durable (step s Boot).site, omega arith, refl, twice (step s Boot).site image (subst (λ (x : Site). HasSite x image) (sym (site_up s can)) is))
+image_of_boot false s image can is = subst (λ (t : Turn). HasCondition t.condition image) (sym (turn_up s can)) is
 
-only_one : (s : Site) (image : List ℕ) → Any (λ x. ImageStands x image) (s ∷ []) → ImageStands s image
+only_one : (s : Site) (image : List ℕ) → Any (λ x. HasSite x image) (s ∷ []) → HasSite s image
 only_one s image any = at any.0 any.1 any.2 any.3 any.4
   where
-    at : (k : ℕ) (x : Site) → k < 1 → slice_index_or (s ∷ []) k x ≡ x → ImageStands x image → ImageStands s image
-    at zero x below same is = subst (λ (y : Site). ImageStands y image) (sym same) is
+    at : (k : ℕ) (x : Site) → k < 1 → slice_index_or (s ∷ []) k x ≡ x → HasSite x image → HasSite s image
+    at zero x below same is = subst (λ (y : Site). HasSite y image) (sym same) is
     at (suc k) x below same is = absurd (omega arith)
 
 module _ (found : Site) (a b : View) {r : Result (Unit {0}) Failed} (is : site_found 1 a.reads ≡ Some found) (attached : IsDeviceCall r a b) (same : IsStill a b) where
-  stands_then : IsSettled 0 a → (image : List ℕ) → b.may_leave 0 image → ImageStands found image
+  stands_then : IsSettled 0 a → (image : List ℕ) → b.may_leave 0 image → HasSite found image
   stands_then settled image may = read_stands a.reads found image is (settled image (same.may_leave 0 image may))
 
   -- while the device is attached
@@ -95,7 +95,7 @@ module _ (found : Site) (a b : View) {r : Result (Unit {0}) Failed} (is : site_f
       only_done (starts_answered a found) Boot t attached.streams cause.0 cause.1 (first_is cause.0 None found) (attaching settled t)
 
   module _ (d : View) (streams : d.streams ≡ b.streams)
-      (boots : (sites : List Site) → ((image : List ℕ) → b.may_leave 0 image → Any (λ s. ImageStands s image) sites) → (s : Site) → site_found 1 b.reads ≡ Some s → Within 0 IsAnyStep (IsOldOrBooted sites s) b d) where
+      (boots : (sites : List Site) → ((image : List ℕ) → b.may_leave 0 image → Any (λ s. HasSite s image) sites) → (s : Site) → site_found 1 b.reads ≡ Some s → Within 0 IsAnyStep (IsOldOrBooted sites s) b d) where
     -- and then booted
     booting : (fails : Bool) → IsSettled 0 a → Within 0 IsAnyStep (IsBeforeOrAfter (Up found) (first_turn fails found)) a d
     booting fails settled =
@@ -108,12 +108,12 @@ module _ (found : Site) (a b : View) {r : Result (Unit {0}) Failed} (is : site_f
     same_streams = streams ∙ attached.streams
 
     -- a boot that ended line 0
-    pub boot_ended : b.faults ≡ a.faults → (stop : Stop) → StopCounts stop b d → IsSettled 0 a → RunsOver (origin_of a) found none_failed (Boot ∷ []) a d
+    pub boot_ended : b.faults ≡ a.faults → (stop : RunEnd) → StopCounts stop b d → IsSettled 0 a → RunsOver (origin_of a) found none_failed (Boot ∷ []) a d
     boot_ended calm_attach stop counts settled =
         let cause = cause_of_stop stop a.faults b d calm_attach counts in
         only_done (starts_answered a found) Boot (first_turn cause.0 found) same_streams cause.0 cause.1 (first_is cause.0 None found) (booting cause.0 settled)
 
-    module _ (calm_boot : d.faults ≡ a.faults) (m : Manager) (e : View) (boots_is : IsBooted m b d) (on : AreOn m d) (same_after : e.faults ≡ d.faults) (none : HasNoNewImage d e)
+    module _ (calm_boot : d.faults ≡ a.faults) (m : Manager) (e : View) (boots_is : IsBooted m b d) (on : ImagesMatch m d) (same_after : e.faults ≡ d.faults) (none : HasNoNewImage d e)
         (k : ℕ) (given : IsGiven k (line_text 0 (ready (site_of m))) d e) (gives : Ran (IsGiving (line_text 0 (ready (site_of m))) d e) d e) where
       abbrev t : Turn
       t = first_turn false found
@@ -127,8 +127,8 @@ module _ (found : Site) (a b : View) {r : Result (Unit {0}) Failed} (is : site_f
       booted_to : first_turn false found ≡ record { condition = Up (booted found); answer = ready (booted found) }
       booted_to = turn_up found (ap can_boot (sym found_is) ∙ boots_is.raisable)
 
-      up_after : IsIn (states.Up m) t.condition d
-      up_after = subst (λ (u : Turn). IsIn (states.Up m) u.condition d) (sym booted_to) (record { site = boots_is.site ∙ ap booted found_is; on = on })
+      up_after : StateMatches (states.Up m) t.condition d
+      up_after = subst (λ (u : Turn). StateMatches (states.Up m) u.condition d) (sym booted_to) (record { site = boots_is.site ∙ ap booted found_is; on = on })
 
       text_is : line_text 0 (ready (site_of m)) ≡ line_text 0 t.answer
       text_is = ap (λ (s : Site). line_text 0 (ready s)) (boots_is.site ∙ ap booted found_is) ∙ ap (λ (u : Turn). line_text 0 u.answer) (sym booted_to)

@@ -27,18 +27,18 @@ use Rattle.tq_model.specs.Reading.{hold_all, page_tests, space_start}
 use Rattle.tq_model.proofs.Replays.{empty_plain, empty_ids}
 use Rattle.tq_device.specs.declared.content.DeviceContent.{DeviceContent}
 use Rattle.tq_device.specs.declared.content.NamedSpace.{NamedSpace}
-use Rattle.tq_device.specs.Content.{Stands, part_of, entered, IsLonger, IsSameButTable, IsOldOrEntered, IsAny, IsAnyStep}
+use Rattle.tq_device.specs.Content.{HasContent, part_of, entered, IsLonger, IsSameButTable, IsOldOrEntered, IsAny, IsAnyStep}
 use Rattle.tq_spacefile.specs.declared.file.SpaceFile.{SpaceFile}
 use Rattle.tq_spacefile.specs.File.{IsFormatted, IsSameButSpace, HasSpace, IsFile, place_in, held_in, logged_in}
 use Rattle.tq_spacefile.specs.Place.{space_end}
 use Rattle.tq_run.specs.declared.manager.Manager.{Manager}
 use Rattle.tq_run.specs.Manager.{site_of, site_with, site_at, placed_at, placed_in, place_of, IsContentOn}
 use Rattle.tq_run.specs.Spaces.{IsShape, IsAdmitted, HasNewSpace, IsNewSpaceOn, IsBareOrNew}
-use Rattle.tq_run.specs.Stops.{ImageStands, IsEither}
+use Rattle.tq_run.specs.Stops.{HasSite, IsEither}
 use Rattle.tq_run.proofs.FoundLemmas.{image_at, image_bare, part_of_stands}
 use Rattle.tq_device.proofs.Offered.{below_stands}
 use Rattle.tq_device.proofs.Longer.{longer_stands}
-use Rattle.tq_run.proofs.Stopping.{any_steps}
+use Rattle.tq_run.proofs.DeviceStopLemmas.{any_steps}
 
 -- ---- the pages of a space
 
@@ -111,18 +111,18 @@ settled_all P v lawful settled done c may = subst P (sym (settled c may)) (done 
 
 module _ (d : DeviceContent) (name : List ℕ) (shape : Shape) where
   -- the device gets its length
-  pub growing : (a b : View) → d.named ≡ None → ((c : List ℕ) → a.may_leave 0 c → Stands d c) → Within 0 IsLonger IsAny a b → Within 0 IsAnyStep (Stands d) a b
-  growing a b bare stand within = wider 0 IsLonger IsAnyStep IsAny (Stands d) a b (λ i c was step any. (tt, longer_stands d i c bare step (stand i was))) within
+  pub growing : (a b : View) → d.named ≡ None → ((c : List ℕ) → a.may_leave 0 c → HasContent d c) → Within 0 IsLonger IsAny a b → Within 0 IsAnyStep (HasContent d) a b
+  growing a b bare stand within = wider 0 IsLonger IsAnyStep IsAny (HasContent d) a b (λ i c was step any. (tt, longer_stands d i c bare step (stand i was))) within
 
   -- the space gets its pages
-  formatting : (a b : View) → ((c : List ℕ) → a.may_leave 0 c → Stands d c) → Within 0 IsSameButSpace IsAny a b → Within 0 IsAnyStep (Stands d) a b
-  formatting a b stand within = wider 0 IsSameButSpace IsAnyStep IsAny (Stands d) a b (λ i c was step any. (tt, below_stands d i c step.size step.bytes (stand i was))) within
+  formatting : (a b : View) → ((c : List ℕ) → a.may_leave 0 c → HasContent d c) → Within 0 IsSameButSpace IsAny a b → Within 0 IsAnyStep (HasContent d) a b
+  formatting a b stand within = wider 0 IsSameButSpace IsAnyStep IsAny (HasContent d) a b (λ i c was step any. (tt, below_stands d i c step.size step.bytes (stand i was))) within
 
   -- the device gets its length, and then the space its pages
-  pub preparing : (a b e : View) → d.named ≡ None → ((c : List ℕ) → a.may_leave 0 c → Stands d c) → Within 0 IsLonger IsAny a b → Within 0 IsSameButSpace IsAny b e → Within 0 IsAnyStep (Stands d) a e
+  pub preparing : (a b e : View) → d.named ≡ None → ((c : List ℕ) → a.may_leave 0 c → HasContent d c) → Within 0 IsLonger IsAny a b → Within 0 IsSameButSpace IsAny b e → Within 0 IsAnyStep (HasContent d) a e
   preparing a b e bare stand first second =
       let grown = growing a b bare stand first in
-      in_a_row 0 IsAnyStep any_steps (Stands d) a b e grown (formatting b e (λ c may. (grown.own c may).now) second)
+      in_a_row 0 IsAnyStep any_steps (HasContent d) a b e grown (formatting b e (λ c may. (grown.own c may).now) second)
 
   -- the space comes into the table
   pub entering : (a b : View) → ((c : List ℕ) → a.may_leave 0 c → IsFormatted shape c × (space_end shape.pages ≤ length c)) → Within 0 IsSameButTable (IsOldOrEntered d (name, shape.pages)) a b → Within 0 IsAnyStep (IsBareOrNew d name shape) a b
@@ -139,8 +139,8 @@ module _ (d : DeviceContent) (name : List ℕ) (shape : Shape) where
       )) within
 
   -- nothing more than that
-  pub still_bare : (a b : View) → Within 0 IsAnyStep (Stands d) a b → Within 0 IsAnyStep (IsBareOrNew d name shape) a b
-  still_bare a b within = weaker 0 IsAnyStep any_steps (Stands d) (IsBareOrNew d name shape) a b (λ i c was is. inl (part_of_stands d c is)) within
+  pub still_bare : (a b : View) → Within 0 IsAnyStep (HasContent d) a b → Within 0 IsAnyStep (IsBareOrNew d name shape) a b
+  still_bare a b within = weaker 0 IsAnyStep any_steps (HasContent d) (IsBareOrNew d name shape) a b (λ i c was is. inl (part_of_stands d c is)) within
 
 -- ---- the site with the new space
 
@@ -187,14 +187,14 @@ module _ (c : SpaceCreation) (m : Manager) (d : DeviceContent) (is : IsAdmitted 
   bare_site = ap (λ (content : Option DeviceContent). site_with content m.file m.next) is.content ∙ ap (λ (named : Option NamedSpace). site_at d (placed_in named m.file) m.next) is.bare
 
   -- an image without the space, and one with it
-  bare_stands : (image : List ℕ) → IsPart (part_of d) image → ImageStands (site_of m) image
-  bare_stands image parts = subst (λ (s : Site). ImageStands s image) (sym bare_site) (image_bare d m.next image parts is.bare)
+  bare_stands : (image : List ℕ) → IsPart (part_of d) image → HasSite (site_of m) image
+  bare_stands image parts = subst (λ (s : Site). HasSite s image) (sym bare_site) (image_bare d m.next image parts is.bare)
 
-  new_stands : (image : List ℕ) → IsNewSpaceOn d c.name (shape_asked c) image → ImageStands (create_space c (site_of m)).site image
+  new_stands : (image : List ℕ) → IsNewSpaceOn d c.name (shape_asked c) image → HasSite (create_space c (site_of m)).site image
   new_stands image new =
       let shape = shape_asked c in
       let n = new_named d c.name shape.pages in
-      subst (λ (o : Outcome). ImageStands o.site image) (sym space_granted)
+      subst (λ (o : Outcome). HasSite o.site image) (sym space_granted)
       (image_at (entered d c.name shape.pages) n (new_held d shape) 0 m.next image new.parts refl (empty_plain shape d.site (8 * d.next_space + 0)) (formatted_has d n shape d.epoch image refl new.formatted new.reach))
 
   -- the images while it is made
@@ -230,7 +230,7 @@ module _ (d e : DeviceContent) (name : List ℕ) (shape : Shape) (f : SpaceFile)
   pub new_file_on : place_in f ≡ record { dev = 0; pages = shape.pages; site = d.site; number = 8 * d.next_space } → ((epoch : ℕ) (image : List ℕ) → IsFormatted shape image → space_end shape.pages ≤ length image → IsFile f epoch image)
       → (image : List ℕ) → HasNewSpace e shape image → IsContentOn (Some e) (Some f) next image
   new_file_on place on image has =
-      subst (λ (x : DeviceContent). Stands x image → IsContentOn (Some x) (Some f) next image) (sym is)
+      subst (λ (x : DeviceContent). HasContent x image → IsContentOn (Some x) (Some f) next image) (sym is)
       (λ stands. record {
         stands = stands;
         space = record {

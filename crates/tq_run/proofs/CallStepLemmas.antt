@@ -19,7 +19,7 @@ use Rattle.tq_model.specs.Space.{Space}
 use Rattle.tq_model.specs.Moves.{IndexedSpace, space_of}
 use Rattle.tq_model.specs.Parts.{IsPart}
 use Rattle.tq_model.specs.Plain.{IsNewer}
-use Rattle.tq_model.specs.Site.{Site, Placed, space_named, has_name, with_space}
+use Rattle.tq_model.specs.Site.{Site, SpaceOnDevice, space_named, has_name, with_space}
 use Rattle.tq_model.specs.SpaceForm.{log_bytes, added_length, gone_length, made_length, longest_body}
 use Rattle.tq_model.specs.EnqueueStep.{enqueue_step, enqueue_refusal}
 use Rattle.tq_model.specs.DequeueStep.{dequeue_step, dequeue_refusal}
@@ -28,14 +28,14 @@ use Rattle.tq_model.specs.Reading.{Test, DevicePart, RawTable, RawJournal, raw_h
 use Rattle.tq_model.proofs.RecordMoves.{moved_plain}
 use Rattle.tq_device.specs.declared.content.DeviceContent.{DeviceContent}
 use Rattle.tq_device.specs.declared.content.NamedSpace.{NamedSpace}
-use Rattle.tq_device.specs.Content.{Stands, IsAnyStep, part_of}
+use Rattle.tq_device.specs.Content.{HasContent, IsAnyStep, part_of}
 use Rattle.tq_spacefile.specs.declared.place.SpacePlace.{SpacePlace}
 use Rattle.tq_spacefile.specs.declared.file.SpaceFile.{SpaceFile}
 use Rattle.tq_spacefile.specs.File.{place_in, held_in, logged_in, room_for, HasSpace, IsFile, AreFile, IsSameButSpace}
 use Rattle.tq_spacefile.specs.Record.{with_record}
 use Rattle.tq_run.specs.declared.manager.Manager.{Manager}
-use Rattle.tq_run.specs.Manager.{site_of, site_with, site_at, placed_at, placed_of, placed_in, place_of, IsFileOf, IsTogether, IsFit, IsSpaceOn, IsFileOn, IsDeviceOn, IsContentOn, IsOn}
-use Rattle.tq_run.specs.Stops.{ImageStands, IsEither, AreOn}
+use Rattle.tq_run.specs.Manager.{site_of, site_with, site_at, placed_at, placed_of, placed_in, place_of, IsFileOf, IsTogether, IsFit, IsSpaceOn, IsFileOn, IsDeviceOn, IsContentOn, ImageMatches}
+use Rattle.tq_run.specs.Stops.{HasSite, IsEither, ImagesMatch}
 use Rattle.tq_run.specs.declared.calls.Called.{Called}
 use Rattle.tq_run.specs.declared.calls.Called.TheVariants.{Refused, Granted}
 use Rattle.tq_run.specs.Calls.{full_log, refusal_in, enqueued_in, enqueue_refusal_in, dequeued_in, dequeue_refusal_in, queue_refusal_in, IsCalled, IsSameOrChanged, HasChanged, answer_of, numbers_of}
@@ -52,7 +52,7 @@ pub record IsNamedIn (m : Manager) (name : List ℕ) (f : SpaceFile) : Type 0 wh
   pub named : d.named ≡ Some n
   pub same : bytes_eq n.name name ≡ true
 
-some_if : (b : Bool) (p : Placed) → is_some (cond b (Some p) None) ≡ true → b ≡ true
+some_if : (b : Bool) (p : SpaceOnDevice) → is_some (cond b (Some p) None) ≡ true → b ≡ true
 some_if true p some = refl
 some_if false p some = cc
 
@@ -86,8 +86,8 @@ pub record IsAfter (m m' : Manager) (f' : SpaceFile) (epoch : ℕ) (Q : List ℕ
   pub answer_is : answer ≡ o.answer
   pub site : site_of m' ≡ o.site
   pub fit : IsFit m'
-  pub on : (old new : List ℕ) → IsOn m old → IsSameButSpace old new → IsFile f' epoch new → IsOn m' new
-  pub are : (a b : View) → AreOn m a → Within 0 IsSameButSpace Q a b → AreFile f' epoch b → AreOn m' b
+  pub on : (old new : List ℕ) → ImageMatches m old → IsSameButSpace old new → IsFile f' epoch new → ImageMatches m' new
+  pub are : (a b : View) → ImagesMatch m a → Within 0 IsSameButSpace Q a b → AreFile f' epoch b → ImagesMatch m' b
 
 -- ---- what the manager holds
 
@@ -107,17 +107,17 @@ module _ (m : Manager) (d : DeviceContent) (n : NamedSpace) (f : SpaceFile) (con
       subst (λ (o : Option DeviceContent). IsTogether o m.file) (sym content)
       (subst (λ (o : Option SpaceFile). IsTogether (Some d) o) (sym file) (subst (λ (o : Option NamedSpace). IsFileOf d o (Some f)) (sym named) place))
 
-  device_on : (image : List ℕ) → IsOn m image → IsDeviceOn d (Some f) m.next image
+  device_on : (image : List ℕ) → ImageMatches m image → IsDeviceOn d (Some f) m.next image
   device_on image on =
       subst (λ (o : Option SpaceFile). IsContentOn (Some d) o m.next image) file (subst (λ (o : Option DeviceContent). IsContentOn o m.file m.next image) content on)
 
-  pub stands_on : (image : List ℕ) → IsOn m image → Stands d image
+  pub stands_on : (image : List ℕ) → ImageMatches m image → HasContent d image
   stands_on image on = (device_on image on).stands
 
-  pub space_on : (image : List ℕ) → IsOn m image → IsSpaceOn d n f m.next image
+  pub space_on : (image : List ℕ) → ImageMatches m image → IsSpaceOn d n f m.next image
   space_on image on = subst (λ (o : Option NamedSpace). IsFileOn d o (Some f) m.next image) named (device_on image on).space
 
-  pub on_from : (image : List ℕ) → Stands d image → IsSpaceOn d n f m.next image → IsOn m image
+  pub on_from : (image : List ℕ) → HasContent d image → IsSpaceOn d n f m.next image → ImageMatches m image
   on_from image stands space =
       subst (λ (o : Option DeviceContent). IsContentOn o m.file m.next image) (sym content)
       (subst (λ (o : Option SpaceFile). IsContentOn (Some d) o m.next image) (sym file)
@@ -132,7 +132,7 @@ middle_holds a b c all =
     (and_parts (hold_all a) (hold_all b) (sym (list_all-append holds a b) ∙ first)).1
 
 -- it is at least 1
-pub some_epoch : (d : DeviceContent) (image : List ℕ) → Stands d image → 1 ≤ d.epoch
+pub some_epoch : (d : DeviceContent) (image : List ℕ) → HasContent d image → 1 ≤ d.epoch
 some_epoch d image stands =
     let h = raw_header image in
     let t : RawTable = raw_table h.table image in
@@ -146,14 +146,14 @@ some_epoch d image stands =
 
 -- ---- the machine's step
 
-module _ (d : DeviceContent) (p : Placed) (next : ℕ) (name : List ℕ) (same : has_name name p ≡ true) where
+module _ (d : DeviceContent) (p : SpaceOnDevice) (next : ℕ) (name : List ℕ) (same : has_name name p ≡ true) where
   named_at : space_named name (site_at d (Some p) next) ≡ Some p
   named_at = ap (λ (b : Bool). cond b (Some p) None) same
 
-  changed_at : (change : Placed → Placed) → with_space name change (site_at d (Some p) next) ≡ site_at d (Some (change p)) next
+  changed_at : (change : SpaceOnDevice → SpaceOnDevice) → with_space name change (site_at d (Some p) next) ≡ site_at d (Some (change p)) next
   changed_at change = ap (λ (b : Bool). site_at d (Some (if b then change p else p)) next) same
 
-enqueue_at : (d : DeviceContent) (p : Placed) (next : ℕ) (words : EnqueueWords) → has_name words.space p ≡ true → length words.body ≤ 65536
+enqueue_at : (d : DeviceContent) (p : SpaceOnDevice) (next : ℕ) (words : EnqueueWords) → has_name words.space p ≡ true → length words.body ≤ 65536
     → enqueue words (site_at d (Some p) next)
     ≡ unless (call_refusal (enqueue_refusal p.space (enqueue_call words 0) 0) p (added_length words.body)) (site_at d (Some p) next) (record {
       site = site_at d (Some (logged_with (added_length words.body) (enqueue_step p.space (enqueue_call words 0) 0 (next_arrival (site_at d (Some p) next))).space p)) (next + 1);
@@ -168,7 +168,7 @@ enqueue_at d p next words same short =
     ∙ ap (λ (x : Site). unless refusal s (with_next_number (record { site = x; answer = answers.Call step.answer })))
     (changed_at d p next words.space same (logged_with (added_length words.body) step.space))
 
-dequeue_at : (d : DeviceContent) (p : Placed) (next : ℕ) (words : DequeueWords) → has_name words.space p ≡ true
+dequeue_at : (d : DeviceContent) (p : SpaceOnDevice) (next : ℕ) (words : DequeueWords) → has_name words.space p ≡ true
     → dequeue words (site_at d (Some p) next)
     ≡ unless (call_refusal (dequeue_refusal p.space (dequeue_call words) 0) p gone_length) (site_at d (Some p) next) (record {
       site = site_at d (Some (logged_with gone_length (dequeue_step p.space (dequeue_call words) 0).space p)) next;
@@ -181,7 +181,7 @@ dequeue_at d p next words same =
     ap (dequeue_in words s) (named_at d p next words.space same)
     ∙ ap (λ (x : Site). unless refusal s (record { site = x; answer = answers.Call step.answer })) (changed_at d p next words.space same (logged_with gone_length step.space))
 
-queue_at : (d : DeviceContent) (p : Placed) (next : ℕ) (creation : QueueCreation) → has_name creation.space p ≡ true
+queue_at : (d : DeviceContent) (p : SpaceOnDevice) (next : ℕ) (creation : QueueCreation) → has_name creation.space p ≡ true
     → create_queue creation (site_at d (Some p) next)
     ≡ unless (queue_refusal creation p) (site_at d (Some p) next) (record {
       site = site_at d (Some (logged_with (made_length creation.queue) (with_queue creation.queue p.space) p)) next;
@@ -275,24 +275,24 @@ module _ (m : Manager) (d : DeviceContent) (n : NamedSpace) (f : SpaceFile) (con
     when_granted is = made ∙ ap (λ (r : Option Answer). unless r (site_of m) after) is
 
     -- the images within it
-    pub within_call : (a b : View) → AreOn m a → Within 0 IsSameButSpace (IsSameOrChanged f refusal epoch number number' size t) a b → Within 0 IsAnyStep (IsEither (site_of m) o.site) a b
+    pub within_call : (a b : View) → ImagesMatch m a → Within 0 IsSameButSpace (IsSameOrChanged f refusal epoch number number' size t) a b → Within 0 IsAnyStep (IsEither (site_of m) o.site) a b
     within_call a b on within = wider 0 IsSameButSpace IsAnyStep (IsSameOrChanged f refusal epoch number number' size t) (IsEither (site_of m) o.site) a b (λ i c was step has. (tt, either i c (on i was) step has)) within
       where
         at_place : (held : IndexedSpace) (logged : ℕ) (c : List ℕ) → HasSpace (place_in f) epoch held logged c → HasSpace (place_of d n) d.epoch held logged c
         at_place held logged c has = subst (λ (k : ℕ). HasSpace (place_of d n) k held logged c) epoch_is (subst (λ (p : SpacePlace). HasSpace p epoch held logged c) place has)
 
-        changed : (i c : List ℕ) → IsOn m i → IsSameButSpace i c → HasChanged f refusal epoch number number' size t c → ImageStands o.site c
+        changed : (i c : List ℕ) → ImageMatches m i → IsSameButSpace i c → HasChanged f refusal epoch number number' size t c → HasSite o.site c
         changed i c on step new =
             let part : IsPart (part_of d) c = part_of_stands d c (below_stands d i c step.size step.bytes (stands_on m d n f content named file i on)) in
             let stands = image_at d n (with_record new.r (held_in f)) (logged_in f + (5 + size)) number' c part named (moved_plain (held_in f) new.r f.plain) (at_place (with_record new.r (held_in f)) (logged_in f + (5 + size)) c new.has) in
-            subst (λ (s : Site). ImageStands s c)
+            subst (λ (s : Site). HasSite s c)
             (ap (λ (x : Space). site_at d (Some (logged_with size x (placed_of n f))) number') new.is.space ∙ sym (ap (λ (x : Outcome). x.site) (when_granted new.free))) stands
 
-        either : (i c : List ℕ) → IsOn m i → IsSameButSpace i c → IsSameOrChanged f refusal epoch number number' size t c → IsEither (site_of m) o.site c
+        either : (i c : List ℕ) → ImageMatches m i → IsSameButSpace i c → IsSameOrChanged f refusal epoch number number' size t c → IsEither (site_of m) o.site c
         either i c on step has =
             let part : IsPart (part_of d) c = part_of_stands d c (below_stands d i c step.size step.bytes (stands_on m d n f content named file i on)) in
             ⊎_elim
-            (λ old. inl (subst (λ (s : Site). ImageStands s c) (sym known) (image_at d n (held_in f) (logged_in f) m.next c part named f.plain (at_place (held_in f) (logged_in f) c old))))
+            (λ old. inl (subst (λ (s : Site). HasSite s c) (sym known) (image_at d n (held_in f) (logged_in f) m.next c part named f.plain (at_place (held_in f) (logged_in f) c old))))
             (λ new. inr (changed i c on step new)) has
 
     answer_by : (f' : SpaceFile) (c : Called) → IsCalled f f' refusal granted epoch number number' size t c → answer_of c ≡ o.answer
@@ -325,7 +325,7 @@ module _ (m : Manager) (d : DeviceContent) (n : NamedSpace) (f : SpaceFile) (con
           let before : IsNewer epoch number (held_in f) = subst (λ (k : ℕ). IsNewer k number (held_in f)) (sym epoch_is) (subst (λ (k : ℕ). IsNewer d.epoch k (held_in f)) (sym number_is) newer) in
           subst (λ (k : ℕ). IsNewer k m'.next (held_in f')) epoch_is (subst (λ (k : ℕ). IsNewer epoch k (held_in f')) (sym next_is) (newer_by f' c called before))
 
-      on_after : (old new : List ℕ) → IsOn m old → IsSameButSpace old new → IsFile f' epoch new → IsOn m' new
+      on_after : (old new : List ℕ) → ImageMatches m old → IsSameButSpace old new → IsFile f' epoch new → ImageMatches m' new
       on_after old new on step is =
           on_from m' d n f' content' named file' new (below_stands d old new step.size step.bytes (stands_on m d n f content named file old on)) (record {
             place = place_by f' c called;
@@ -347,17 +347,17 @@ module _ (m : Manager) (d : DeviceContent) (n : NamedSpace) (f : SpaceFile) (con
 -- ---- the calls
 
 module _ (m : Manager) (name : List ℕ) (f : SpaceFile) (file : m.file ≡ Some f) (at : IsNamedIn m name f) where
-  pub file_on : (image : List ℕ) → IsOn m image → IsFile f at.d.epoch image
+  pub file_on : (image : List ℕ) → ImageMatches m image → IsFile f at.d.epoch image
   file_on image on = (space_on m at.d at.n f at.content at.named file image on).file
 
-  pub files_on : (v : View) → IsFit m → AreOn m v → AreFile f at.d.epoch v
+  pub files_on : (v : View) → IsFit m → ImagesMatch m v → AreFile f at.d.epoch v
   files_on v fit on = λ image may. file_on image (on image (subst (λ (p : SpacePlace). v.may_leave p.dev image) (place_known m at.d at.n f at.content at.named file fit) may))
 
 module _ (m : Manager) (words : DequeueWords) (f : SpaceFile) (file : m.file ≡ Some f) (at : IsNamedIn m words.space f) (fit : IsFit m) where
   abbrev dequeue_space : Space
   dequeue_space = (dequeued_in f words).space
 
-  pub dequeue_within : (a b : View) → AreOn m a → Within 0 IsSameButSpace (IsSameOrChanged f (dequeue_refusal_in f words) at.d.epoch m.next m.next gone_length (dequeued_in f words).space) a b
+  pub dequeue_within : (a b : View) → ImagesMatch m a → Within 0 IsSameButSpace (IsSameOrChanged f (dequeue_refusal_in f words) at.d.epoch m.next m.next gone_length (dequeued_in f words).space) a b
       → Within 0 IsAnyStep (IsEither (site_of m) (dequeue words (site_of m)).site) a b
   dequeue_within =
       within_call m at.d at.n f at.content at.named file fit (dequeue_refusal_in f words) (answers.Call (dequeued_in f words).answer) at.d.epoch m.next m.next gone_length dequeue_space (dequeue words (site_of m)) refl refl
@@ -373,7 +373,7 @@ module _ (m : Manager) (creation : QueueCreation) (f : SpaceFile) (file : m.file
   abbrev queue_space : Space
   queue_space = with_queue creation.queue (space_of (held_in f))
 
-  pub queue_within : (a b : View) → AreOn m a
+  pub queue_within : (a b : View) → ImagesMatch m a
       → Within 0 IsSameButSpace (IsSameOrChanged f (queue_refusal_in f creation.queue) at.d.epoch m.next m.next (made_length creation.queue) (with_queue creation.queue (space_of (held_in f)))) a b
       → Within 0 IsAnyStep (IsEither (site_of m) (create_queue creation (site_of m)).site) a b
   queue_within =
@@ -400,19 +400,19 @@ module _ (m : Manager) (words : EnqueueWords) (f : SpaceFile) (file : m.file ≡
   number_is = ap (λ (x : Arrival). x.number) arrival_is
 
   -- the arrival is of an epoch, and newer than all of the space
-  pub arrives : (image : List ℕ) → IsOn m image → (1 ≤ next.epoch) × IsNewer next.epoch next.number (held_in f)
+  pub arrives : (image : List ℕ) → ImageMatches m image → (1 ≤ next.epoch) × IsNewer next.epoch next.number (held_in f)
   arrives image on =
       let some = some_epoch at.d image (stands_on m at.d at.n f at.content at.named file image on) in
       let newer = (space_on m at.d at.n f at.content at.named file image on).newer in
       subst (λ (x : Arrival). (1 ≤ x.epoch) × IsNewer x.epoch x.number (held_in f)) (sym arrival_is) (some, newer)
 
-  pub file_then : (image : List ℕ) → IsOn m image → IsFile f next.epoch image
+  pub file_then : (image : List ℕ) → ImageMatches m image → IsFile f next.epoch image
   file_then image on = subst (λ (k : ℕ). IsFile f k image) (sym epoch_is) (file_on m words.space f file at image on)
 
-  pub files_then : (v : View) → AreOn m v → AreFile f next.epoch v
+  pub files_then : (v : View) → ImagesMatch m v → AreFile f next.epoch v
   files_then v on = subst (λ (k : ℕ). AreFile f k v) (sym epoch_is) (files_on m words.space f file at v fit on)
 
-  pub enqueue_within : (a b : View) → AreOn m a
+  pub enqueue_within : (a b : View) → ImagesMatch m a
       → Within 0 IsSameButSpace (IsSameOrChanged f (enqueue_refusal_in f words) next.epoch next.number (next.number + 1) (added_length words.body) (enqueued_in f words next).space) a b
       → Within 0 IsAnyStep (IsEither (site_of m) (enqueue words (site_of m)).site) a b
   enqueue_within =

@@ -13,21 +13,21 @@ use Rattle.tq_model.specs.declared.request.Request.TheVariants.{Nothing, Boot, B
 use Rattle.tq_model.specs.Site.{Site, durable}
 use Rattle.tq_model.specs.Step.{step}
 use Rattle.tq_model.specs.Reading.{site_found}
-use Rattle.tq_model.specs.Faulty.{Condition, Up, Down, Turn, down_answer, failing_turn, steady_turn, turn_at}
+use Rattle.tq_model.specs.MachineWithFaults.{Condition, Up, Down, Turn, down_answer, failing_turn, steady_turn, turn_at}
 use Rattle.tq_model.proofs.Images.{found_durable}
 use Rattle.tq_device.specs.Content.{IsAnyStep}
 use Rattle.tq_run.specs.declared.manager.Manager.{Manager}
 use Rattle.tq_run.specs.declared.state.State.{State}
 use Rattle.tq_run.specs.declared.state.State.TheVariants as states
-use Rattle.tq_run.specs.declared.status.Stop.{Stop}
-use Rattle.tq_run.specs.declared.status.Stop.TheVariants.{Damaged, Memory, Input, Output, Device as Failed, TooMuchInput}
+use Rattle.tq_run.specs.declared.status.RunEnd.{RunEnd}
+use Rattle.tq_run.specs.declared.status.RunEnd.TheVariants.{Damaged, Memory, Input, Output, Device as Failed, TooMuchInput}
 use Rattle.tq_run.specs.Counts.{Rises, StopCounts}
 use Rattle.tq_run.specs.Manager.{site_of}
-use Rattle.tq_run.specs.Stops.{AreOn, IsEither, ImageStands, HasNoNewImage}
-use Rattle.tq_run.specs.Turns.{ImageStandsFor, turn_between, IsBeforeOrAfter}
-use Rattle.tq_run.specs.Standing.{IsIn, HasTurned, IsTurning}
+use Rattle.tq_run.specs.Stops.{ImagesMatch, IsEither, HasSite, HasNoNewImage}
+use Rattle.tq_run.specs.Turns.{HasCondition, turn_between, IsBeforeOrAfter}
+use Rattle.tq_run.specs.Standing.{StateMatches, HasTurned, IsTurning}
 use Rattle.tq_run.proofs.FoundLemmas.{image_stands}
-use Rattle.tq_run.proofs.Stopping.{any_steps}
+use Rattle.tq_run.proofs.DeviceStopLemmas.{any_steps}
 
 -- whether a count rose
 pub calm : (before now : ℕ) → now ≡ before → nat_lt before now ≡ false
@@ -45,7 +45,7 @@ its_cause before now rises = record { later = rises.later; rose = λ e. rises.ro
 
 -- Up
 
-pub up_only : (m : Manager) (c : Condition) (v : View) → IsIn (states.Up m) c v → (c ≡ Up (site_of m)) × AreOn m v
+pub up_only : (m : Manager) (c : Condition) (v : View) → StateMatches (states.Up m) c v → (c ≡ Up (site_of m)) × ImagesMatch m v
 up_only m (Up s) v is = (ap Up (sym is.site), is.on)
 up_only m (Down sites) v is = absurd is
 
@@ -64,11 +64,11 @@ pub steady_pictures : (s : Site) (r : Request) (t : Turn) (a b : View) → t ≡
 steady_pictures s r t a b is within = subst (λ (u : Turn). Within 0 IsAnyStep (IsBeforeOrAfter (Up s) u) a b) (sym is) within
 
 -- a crash of what a crash left changes nothing
-pub twice : (s : Site) (image : List ℕ) → ImageStands s image → ImageStands (durable s) image
+pub twice : (s : Site) (image : List ℕ) → HasSite s image → HasSite (durable s) image
 twice s image is = is ∙ ap (λ (x : Site). Some x) (sym (found_durable (λ d. image) (durable s) is))
 
 -- an image that stands for one of two sites is one of a list of both
-pub one_of_two : (s t : Site) (image : List ℕ) → IsEither s t image → ImageStandsFor (Down (durable s ∷ durable t ∷ [])) image
+pub one_of_two : (s t : Site) (image : List ℕ) → IsEither s t image → HasCondition (Down (durable s ∷ durable t ∷ [])) image
 one_of_two s t image (inl old) = (0, durable s, omega arith, refl, twice s image old)
 one_of_two s t image (inr new) = (1, durable t, omega arith, refl, twice t image new)
 
@@ -79,7 +79,7 @@ failing_pictures s r t a b is within =
     (weaker 0 IsAnyStep any_steps (IsEither s (step s r).site) (IsBeforeOrAfter (Up s) (failing_turn s r)) a b (λ start image may either. inr (one_of_two s (step s r).site image either)) within)
 
 -- each image after a line that failed
-pub failed_images : (s : Site) (r : Request) (a b : View) → Within 0 IsAnyStep (IsEither s (step s r).site) a b → IsIn states.Down (failing_turn s r).condition b
+pub failed_images : (s : Site) (r : Request) (a b : View) → Within 0 IsAnyStep (IsEither s (step s r).site) a b → StateMatches states.Down (failing_turn s r).condition b
 failed_images s r a b within = λ image may. one_of_two s (step s r).site image (within.own image may).now
 
 -- Down
@@ -94,28 +94,28 @@ down_is rose found sites (Space request) ne = refl
 down_is rose found sites (Call request) ne = refl
 
 -- the turn of a line while there is no site
-pub down_between : (c : Condition) (r : Request) (failed : Bool) (reads : ℕ → List ℕ) (v : View) → r ≢ Boot → IsIn states.Down c v → turn_between failed reads c r ≡ record { condition = c; answer = down_answer r }
+pub down_between : (c : Condition) (r : Request) (failed : Bool) (reads : ℕ → List ℕ) (v : View) → r ≢ Boot → StateMatches states.Down c v → turn_between failed reads c r ≡ record { condition = c; answer = down_answer r }
 down_between (Up s) r failed reads v ne is = absurd is
 down_between (Down sites) r failed reads v ne is = down_is failed (site_found 1 reads) sites r ne
 
-pub down_images : (c : Condition) (v : View) (image : List ℕ) → IsIn states.Down c v → v.may_leave 0 image → ImageStandsFor c image
+pub down_images : (c : Condition) (v : View) (image : List ℕ) → StateMatches states.Down c v → v.may_leave 0 image → HasCondition c image
 down_images (Up s) v image is may = absurd is
 down_images (Down sites) v image is may = is image may
 
-pub down_pictures : (c : Condition) (t : Turn) (v : View) → IsIn states.Down c v → Within 0 IsAnyStep (IsBeforeOrAfter c t) v v
+pub down_pictures : (c : Condition) (t : Turn) (v : View) → StateMatches states.Down c v → Within 0 IsAnyStep (IsBeforeOrAfter c t) v v
 down_pictures c t v is = starts 0 IsAnyStep any_steps (IsBeforeOrAfter c t) v (λ image may. inl (down_images c v image is may))
 
 -- In any state
 
 -- each image stands for the condition
-pub images_in : (state : State) (c : Condition) (v : View) (image : List ℕ) → IsIn state c v → v.may_leave 0 image → ImageStandsFor c image
-images_in (states.Up m) (Up s) v image is may = subst (λ (x : Site). ImageStands x image) is.site (image_stands m image (is.on image may))
+pub images_in : (state : State) (c : Condition) (v : View) (image : List ℕ) → StateMatches state c v → v.may_leave 0 image → HasCondition c image
+images_in (states.Up m) (Up s) v image is may = subst (λ (x : Site). HasSite x image) is.site (image_stands m image (is.on image may))
 images_in (states.Up m) (Down sites) v image is may = absurd is
 images_in states.Down (Up s) v image is may = absurd is
 images_in states.Down (Down sites) v image is may = is image may
 
 -- where no image is new
-pub still_in : (state : State) (c : Condition) (a b : View) → HasNoNewImage a b → IsIn state c a → IsIn state c b
+pub still_in : (state : State) (c : Condition) (a b : View) → HasNoNewImage a b → StateMatches state c a → StateMatches state c b
 still_in (states.Up m) (Up s) a b none is = record { site = is.site; on = λ image may. is.on image (none 0 image may) }
 still_in (states.Up m) (Down sites) a b none is = absurd is
 still_in states.Down (Up s) a b none is = absurd is
@@ -128,21 +128,21 @@ module _ (m : Manager) (request : Request) (a b : View) (ne : request ≢ Boot) 
   s = site_of m
 
   -- the pictures where no device failed, and where one did
-  within_up : (AreOn m a → Within 0 IsAnyStep (IsEither (site_of m) (step (site_of m) request).site) a b) → (c : Condition) → IsIn (states.Up m) c a → Within 0 IsAnyStep (IsBeforeOrAfter c (turn_between false a.reads c request)) a b
+  within_up : (ImagesMatch m a → Within 0 IsAnyStep (IsEither (site_of m) (step (site_of m) request).site) a b) → (c : Condition) → StateMatches (states.Up m) c a → Within 0 IsAnyStep (IsBeforeOrAfter c (turn_between false a.reads c request)) a b
   within_up stop c is =
       let up = up_only m c a is in
       subst (λ (x : Condition). Within 0 IsAnyStep (IsBeforeOrAfter x (turn_between false a.reads x request)) a b) (sym up.0)
       (steady_pictures s request (turn_between false a.reads (Up (site_of m)) request) a b (steady_is s request ne) (stop up.1))
 
-  within_down : (AreOn m a → Within 0 IsAnyStep (IsEither (site_of m) (step (site_of m) request).site) a b) → (c : Condition) → IsIn (states.Up m) c a → Within 0 IsAnyStep (IsBeforeOrAfter c (turn_between true a.reads c request)) a b
+  within_down : (ImagesMatch m a → Within 0 IsAnyStep (IsEither (site_of m) (step (site_of m) request).site) a b) → (c : Condition) → StateMatches (states.Up m) c a → Within 0 IsAnyStep (IsBeforeOrAfter c (turn_between true a.reads c request)) a b
   within_down stop c is =
       let up = up_only m c a is in
       subst (λ (x : Condition). Within 0 IsAnyStep (IsBeforeOrAfter x (turn_between true a.reads x request)) a b) (sym up.0)
       (failing_pictures s request (turn_between true a.reads (Up (site_of m)) request) a b refl (stop up.1))
 
   -- done, and no device failed
-  pub served : (m' : Manager) (answer : Answer) → b.faults ≡ a.faults → answer ≡ (step (site_of m) request).answer → site_of m' ≡ (step (site_of m) request).site → (AreOn m a → AreOn m' b)
-      → (AreOn m a → Within 0 IsAnyStep (IsEither (site_of m) (step (site_of m) request).site) a b) → HasTurned (states.Up m) (states.Up m') request answer a b
+  pub served : (m' : Manager) (answer : Answer) → b.faults ≡ a.faults → answer ≡ (step (site_of m) request).answer → site_of m' ≡ (step (site_of m) request).site → (ImagesMatch m a → ImagesMatch m' b)
+      → (ImagesMatch m a → Within 0 IsAnyStep (IsEither (site_of m) (step (site_of m) request).site) a b) → HasTurned (states.Up m) (states.Up m') request answer a b
   served m' answer same said site on stop = record {
     failed = false;
     cause = no_cause a.faults b.faults same;
@@ -151,31 +151,31 @@ module _ (m : Manager) (request : Request) (a b : View) (ne : request ≢ Boot) 
         subst (λ (x : Condition). answer ≡ (turn_between false a.reads x request).answer) (sym up.0) (said ∙ ap (λ (t : Turn). t.answer) (sym (steady_is s request ne)));
     then = λ c is.
         let up = up_only m c a is in
-        subst (λ (x : Condition). IsIn (states.Up m') (turn_between false a.reads x request).condition b) (sym up.0)
-        (subst (λ (t : Turn). IsIn (states.Up m') t.condition b) (sym (steady_is s request ne)) (record { site = site; on = on up.1 }));
+        subst (λ (x : Condition). StateMatches (states.Up m') (turn_between false a.reads x request).condition b) (sym up.0)
+        (subst (λ (t : Turn). StateMatches (states.Up m') t.condition b) (sym (steady_is s request ne)) (record { site = site; on = on up.1 }));
     within = within_up stop;
   }
 
-  pub serving : b.faults ≡ a.faults → (AreOn m a → Within 0 IsAnyStep (IsEither (site_of m) (step (site_of m) request).site) a b) → IsTurning (states.Up m) request a b
+  pub serving : b.faults ≡ a.faults → (ImagesMatch m a → Within 0 IsAnyStep (IsEither (site_of m) (step (site_of m) request).site) a b) → IsTurning (states.Up m) request a b
   serving same stop = record { failed = false; cause = no_cause a.faults b.faults same; within = within_up stop }
 
   -- a device failed
-  pub failed : Rises a.faults b.faults → (AreOn m a → Within 0 IsAnyStep (IsEither (site_of m) (step (site_of m) request).site) a b) → HasTurned (states.Up m) states.Down request answers.SystemError a b
+  pub failed : Rises a.faults b.faults → (ImagesMatch m a → Within 0 IsAnyStep (IsEither (site_of m) (step (site_of m) request).site) a b) → HasTurned (states.Up m) states.Down request answers.SystemError a b
   failed rises stop = record {
     failed = true;
     cause = its_cause a.faults b.faults rises;
     answer = λ c is. let up = up_only m c a is in subst (λ (x : Condition). answers.SystemError ≡ (turn_between true a.reads x request).answer) (sym up.0) refl;
     then = λ c is.
         let up = up_only m c a is in
-        subst (λ (x : Condition). IsIn states.Down (turn_between true a.reads x request).condition b) (sym up.0) (failed_images s request a b (stop up.1));
+        subst (λ (x : Condition). StateMatches states.Down (turn_between true a.reads x request).condition b) (sym up.0) (failed_images s request a b (stop up.1));
     within = within_down stop;
   }
 
-  pub failing : Rises a.faults b.faults → (AreOn m a → Within 0 IsAnyStep (IsEither (site_of m) (step (site_of m) request).site) a b) → IsTurning (states.Up m) request a b
+  pub failing : Rises a.faults b.faults → (ImagesMatch m a → Within 0 IsAnyStep (IsEither (site_of m) (step (site_of m) request).site) a b) → IsTurning (states.Up m) request a b
   failing rises stop = record { failed = true; cause = its_cause a.faults b.faults rises; within = within_down stop }
 
   -- it ended without an answer
-  pub ended : (stop : Stop) → StopCounts stop a b → (stop ≢ Memory → stop ≡ Failed) → (AreOn m a → Within 0 IsAnyStep (IsEither (site_of m) (step (site_of m) request).site) a b) → IsTurning (states.Up m) request a b
+  pub ended : (stop : RunEnd) → StopCounts stop a b → (stop ≢ Memory → stop ≡ Failed) → (ImagesMatch m a → Within 0 IsAnyStep (IsEither (site_of m) (step (site_of m) request).site) a b) → IsTurning (states.Up m) request a b
   ended Memory counts two stop = serving counts.device stop
   ended Failed counts two stop = failing counts.device stop
   ended Damaged counts two stop = absurd (unlike (two (λ e. cc)))
@@ -195,7 +195,7 @@ module _ (m : Manager) (request : Request) (a b : View) (ne : request ≢ Boot) 
       unlike : TooMuchInput ≡ Failed → ⊥
       unlike e = cc
 
-pub stop_later : (stop : Stop) (a b : View) → StopCounts stop a b → a.faults ≤ b.faults
+pub stop_later : (stop : RunEnd) (a b : View) → StopCounts stop a b → a.faults ≤ b.faults
 stop_later Memory a b counts = omega (arith, counts.device)
 stop_later Failed a b counts = counts.device.later
 stop_later Damaged a b counts = omega (arith, counts.device)
@@ -204,7 +204,7 @@ stop_later Output a b counts = omega (arith, counts.device)
 stop_later TooMuchInput a b counts = omega (arith, counts.device)
 
 -- where no device failed
-pub quiet_unless : (stop : Stop) (a b : View) → StopCounts stop a b → stop ≢ Failed → b.faults ≡ a.faults
+pub quiet_unless : (stop : RunEnd) (a b : View) → StopCounts stop a b → stop ≢ Failed → b.faults ≡ a.faults
 quiet_unless Memory a b counts other = counts.device
 quiet_unless Failed a b counts other = absurd (other refl)
 quiet_unless Damaged a b counts other = counts.device
@@ -218,7 +218,7 @@ refused request a ne = record {
   failed = false;
   cause = no_cause a.faults a.faults refl;
   answer = λ c is. ap (λ (t : Turn). t.answer) (sym (down_between c request false a.reads a ne is));
-  then = λ c is. subst (λ (t : Turn). IsIn states.Down t.condition a) (sym (down_between c request false a.reads a ne is)) is;
+  then = λ c is. subst (λ (t : Turn). StateMatches states.Down t.condition a) (sym (down_between c request false a.reads a ne is)) is;
   within = λ c is. down_pictures c (turn_between false a.reads c request) a is;
 }
 
