@@ -97,7 +97,7 @@ error_value word = if bytes_eq word (codes "-") then Some (ErrorName None) else 
 
 -- where in a text a byte stands: at an item's begin, behind a backslash, or behind the first of two hexadecimal digits
 pub data TextPlace : Type 0 where
-  Entry : TextPlace
+  Item : TextPlace
   Backslash : TextPlace
   HalfByte : ℕ → TextPlace
 
@@ -115,18 +115,18 @@ with_text_byte b text = option_map (λ bytes. b ∷ bytes) text
 -- hexadecimal digits; the quote that ends the text is the last byte.
 abbrev pub text_from : TextPlace → List ℕ → Option (List ℕ)
 text_from place [] = None
-text_from Entry (b ∷ bytes) =
+text_from Item (b ∷ bytes) =
     if b == 34 then (if is_empty_list bytes then Some [] else None)
     else (if b == 92 then text_from Backslash bytes
-    else (if is_printable b then with_text_byte b (text_from Entry bytes) else None))
+    else (if is_printable b then with_text_byte b (text_from Item bytes) else None))
 text_from Backslash (b ∷ bytes) =
-    if b == 34 || b == 92 then with_text_byte b (text_from Entry bytes)
+    if b == 34 || b == 92 then with_text_byte b (text_from Item bytes)
     else (if is_ascii_hexdigit b then text_from (HalfByte (digit_value b)) bytes else None)
-text_from (HalfByte high) (b ∷ bytes) = if is_ascii_hexdigit b then with_text_byte (16 * high + digit_value b) (text_from Entry bytes) else None
+text_from (HalfByte high) (b ∷ bytes) = if is_ascii_hexdigit b then with_text_byte (16 * high + digit_value b) (text_from Item bytes) else None
 
 abbrev pub text_of : List ℕ → Option (List ℕ)
 text_of [] = None
-text_of (b ∷ bytes) = if b == 34 then text_from Entry bytes else None
+text_of (b ∷ bytes) = if b == 34 then text_from Item bytes else None
 
 abbrev pub flag_word : Flag → List ℕ
 flag_word flags.NoFlags = codes "TPNOFLAGS"
