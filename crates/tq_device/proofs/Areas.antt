@@ -2,7 +2,7 @@
 use Rattle.std.proofs.Common.{◌≡◌, ◌⊎◌, inl, inr, ◌≤◌, ℕ, ◌+◌, ◌-◌, ◌%◌, true, false, refl, sym, ◌∙◌, ap, arith}
 use Rattle.std.specs.Prelude.{◌==◌, if◌then◌else◌}
 use Rattle.std.proofs.lemmas.Bool.{cases_eq}
-use Rattle.tq_model.specs.Reading.{chosen, other}
+use Rattle.tq_model.specs.DeviceForm.{chosen, other}
 
 data Pick (chosen_area other_area a b : ℕ) : Type 0 where
   First : chosen_area ≡ a → other_area ≡ b → Pick chosen_area other_area a b

@@ -1,7 +1,7 @@
 -- What a device holds stays where it grows.
 use Rattle.std.proofs.Common.{◌≡◌, ℕ, ◌+◌, List, None, refl, sym, ◌∙◌, arith}
 use Rattle.tq_host.proofs.Steps.{IsSteps}
-use Rattle.tq_model.specs.Reading.{chosen, table_a, table_b, journal_a, journal_b}
+use Rattle.tq_model.specs.DeviceForm.{chosen, table_a, table_b, journal_a, journal_b}
 use Rattle.tq_device.specs.declared.content.DeviceContent.{DeviceContent}
 use Rattle.tq_device.specs.Content.{HasContent, IsLonger}
 use Rattle.tq_device.proofs.Areas.{chosen_most}

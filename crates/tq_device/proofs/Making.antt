@@ -12,7 +12,7 @@ use Rattle.tq_host.proofs.Within.{weaker}
 use Rattle.tq_host.proofs.Steps.{IsSteps}
 use Rattle.tq_host.proofs.Bytes.{before_or_after}
 use Rattle.tq_model.specs.Site.{least_clusters, most_clusters}
-use Rattle.tq_model.specs.Reading.{table_a, journal_a}
+use Rattle.tq_model.specs.DeviceForm.{table_a, journal_a}
 use Rattle.tq_device.specs.Content.{HasContent, IsBlankOrNew, IsAnyStep, new_content}
 use Rattle.tq_device.specs.Made.{IsShort, made_byte, IsMadeTo, IsPaged, IsLaidOut}
 use Rattle.tq_device.specs.Parts.{is_header, is_journal, HasHeader, IsTable, HasTable, HasJournal}
@@ -64,15 +64,14 @@ journal_made at epoch start image size mark number one long same =
     let at_epoch : number_at (at + 4) 4 image ≡ epoch = same_numbers (at + 4) 4 4 image start (omega arith) (omega arith) (shifted at 0 (at + 4) 4 4 1025 4 image start same refl refl (omega arith)) ∙ number in
     let decided : get_or image (at + 8) 0 ≡ 0 = behind 1025 at 8 (at + 8) image start same refl (omega arith) (omega arith) in
     let gate : get_or image (at + 1024) 0 ≡ 0 = behind 1025 at 1024 (at + 1024) image start same refl (omega arith) (omega arith) in
-    let decision = number_at (at + 12) 4 image in
-    let test : List ℕ → ℕ → ℕ → ℕ → Bool = λ m e d g. is_journal (record { mark = m; epoch = e; decided = d; decision_epoch = decision; gate = g }) in
+    let test : List ℕ → ℕ → ℕ → ℕ → Bool = λ m e d g. is_journal (record { mark = m; epoch = e; decided = d; gate = g }) in
     record {
       holds =
           ap (λ (m : List ℕ). test m (number_at (at + 4) 4 image) (get_or image (at + 8) 0) (get_or image (at + 1024) 0)) marked
           ∙ ap (λ (e : ℕ). test (codes "TQSJ") e (get_or image (at + 8) 0) (get_or image (at + 1024) 0)) at_epoch
           ∙ ap (λ (d : ℕ). test (codes "TQSJ") epoch d (get_or image (at + 1024) 0)) decided
           ∙ ap (λ (g : ℕ). test (codes "TQSJ") epoch 0 g) gate
-          ∙ ap (λ (b : Bool). b && true && true) (le-leb 1 epoch one);
+          ∙ ap (λ (b : Bool). b && true) (le-leb 1 epoch one);
       epoch_is = at_epoch;
     }
 

@@ -4,7 +4,7 @@ use Rattle.std.specs.Prelude.{codes}
 use Rattle.tq_field.specs.Places.{run_at, number_at}
 use Rattle.tq_host.specs.Calls.{IsSameOutside, IsTorn, IsWritten}
 use Rattle.tq_host.proofs.Steps.{IsSteps}
-use Rattle.tq_model.specs.Reading.{chosen, other, table_a, table_b, journal_a, journal_b}
+use Rattle.tq_model.specs.DeviceForm.{chosen, other, table_a, table_b, journal_a, journal_b}
 use Rattle.tq_device.specs.declared.content.DeviceContent.{DeviceContent}
 use Rattle.tq_device.specs.Content.{HasContent, raised, IsOldOrRaised, IsSameButJournal}
 use Rattle.tq_device.specs.Parts.{HasJournal}

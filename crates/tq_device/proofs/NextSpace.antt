@@ -7,17 +7,18 @@ use Rattle.tq_host.specs.Calls.{HasBytesAt, IsSameOutside, IsTorn, IsWritten}
 use Rattle.tq_host.proofs.Steps.{IsSteps}
 use Rattle.tq_types.specs.Name.{IsName}
 use Rattle.tq_model.specs.Site.{clusters_for}
-use Rattle.tq_model.specs.Reading.{RawEntry, raw_entry, raw_table, chosen, other, table_a, table_b, journal_a, journal_b}
-use Rattle.tq_model.specs.Reading as read
+use Rattle.tq_device.specs.FirstEntry.{FirstEntry, first_entry, table_start}
+use Rattle.tq_model.specs.DeviceForm.{chosen, other, table_a, table_b, journal_a, journal_b}
 use Rattle.tq_model.proofs.NameTests.{is_name-name}
 use Rattle.tq_device.specs.declared.content.NamedSpace.{NamedSpace}
 use Rattle.tq_device.specs.declared.content.DeviceContent.{DeviceContent}
-use Rattle.tq_device.specs.Content.{HasContent, named_view, entered, IsOldOrEntered, IsSameButTable}
+use Rattle.tq_device.specs.Content.{HasContent, entered, IsOldOrEntered, IsSameButTable}
 use Rattle.tq_device.specs.Parts.{IsTable, HasTable, IsFitting, entry_of}
 use Rattle.tq_device.specs.Entered.{IsTableFilled}
 use Rattle.tq_device.proofs.Areas.{chosen_least, other_least, other_most, other_apart, chosen_either, turned}
 use Rattle.tq_device.proofs.Parts.{AreSame, same_runs, same_numbers, kept_number, run_stands}
-use Rattle.tq_device.proofs.Standing.{base_holds, next_least, fits_entry, named_short, table_moved, stands_parts, selected, written_apart}
+use Rattle.tq_device.proofs.EntryLemmas.{fits_entry}
+use Rattle.tq_device.proofs.Standing.{base_holds, next_least, named_short, table_moved, stands_parts, selected, written_apart}
 
 pub table_steps : IsSteps IsSameButTable
 table_steps = record {
@@ -27,7 +28,7 @@ table_steps = record {
 
 -- The base that is written
 
-abbrev space_of : List ℕ → ℕ → ℕ → read.NamedSpace
+abbrev space_of : List ℕ → ℕ → ℕ → NamedSpace
 space_of name ordinal pages = record { name = name; ordinal = ordinal; pages = pages }
 
 module _ (ordinal pages : ℕ) (name start padded named numbered base : List ℕ) (size_start : length start ≡ 8) (size_0 : length padded ≡ 3072) (size_1 : length named ≡ 3072) (size_2 : length numbered ≡ 3072) (size_3 : length base ≡ 3072) (is_name : IsName name) (small : ordinal < 268435455)
@@ -46,14 +47,14 @@ module _ (ordinal pages : ℕ) (name start padded named numbered base : List ℕ
       let i = 32 + 160 * k in
       outside_3 i (inl (omega arith)) ∙ outside_2 i (inr (omega arith)) ∙ outside_1 i (inr (omega arith)) ∙ pad i ∙ get_or_past start i 0 (omega arith)
 
-  entry_is : raw_entry 0 base ≡ entry_of (space_of name ordinal pages)
+  entry_is : first_entry 0 base ≡ entry_of (space_of name ordinal pages)
   entry_is =
       let fits = is_name.most in
       let text_is : run_at 34 (get_or base 33 0) base ≡ name = ap (λ n. run_at 34 n base) (low 33 (omega arith) ∙ size) ∙ run_stands 34 name base (omega (arith, fits)) (λ i lt. low (34 + i) (omega (arith, lt, fits)) ∙ text i lt) in
       let ordinal_is : number_at 164 4 base ≡ ordinal = kept_number 2592 4 164 4 numbered base outside_3 (inl (omega arith)) (omega arith) (omega arith) ∙ is_ordinal in
       let pages_are : number_at 168 4 base ≡ pages = kept_number 2592 4 168 4 numbered base outside_3 (inl (omega arith)) (omega arith) (omega arith) ∙ is_pages in
       let extents_are : number_at 172 4 base ≡ 1 = kept_number 2592 4 172 4 numbered base outside_3 (inl (omega arith)) (omega arith) (omega arith) ∙ extents in
-      let entry : List ℕ → ℕ → ℕ → ℕ → ℕ → ℕ → RawEntry = λ n o p e f c. record { name = n; ordinal = o; pages = p; extents = e; first = f; count = c } in
+      let entry : List ℕ → ℕ → ℕ → ℕ → ℕ → ℕ → FirstEntry = λ n o p e f c. record { name = n; ordinal = o; pages = p; extents = e; first = f; count = c } in
       ap (λ (n : List ℕ). entry n (number_at 164 4 base) (number_at 168 4 base) (number_at 172 4 base) (number_at 2592 2 base) (number_at 2594 2 base)) text_is
       ∙ ap (λ (o : ℕ). entry name o (number_at 168 4 base) (number_at 172 4 base) (number_at 2592 2 base) (number_at 2594 2 base)) ordinal_is
       ∙ ap (λ (p : ℕ). entry name ordinal p (number_at 172 4 base) (number_at 2592 2 base) (number_at 2594 2 base)) pages_are
@@ -98,7 +99,7 @@ new_fits d name pages size a stands is_name least most within reached =
     let table = (stands_parts d a stands).table.bytes in
     fits_entry (d.next_space + 1) d.clusters size (entry_of (space_of name d.next_space pages)) (record {
       name = is_name-name name is_name;
-      ordinal_least = omega (arith, next_least (raw_table (chosen d.table table_a table_b) a) table.holds, table.next_is);
+      ordinal_least = omega (arith, next_least (table_start (chosen d.table table_a table_b) a) table.holds, table.next_is);
       ordinal_below = omega arith;
       pages_least = least;
       pages_most = most;
@@ -130,11 +131,11 @@ table_written d name pages at base a b place size_base is is_name least most wit
 
 module _ (d : DeviceContent) (name : List ℕ) (pages : ℕ) (a b : List ℕ) (filled : IsTableFilled d name pages a) (size : length b ≡ length a) (outside : IsSameOutside 512 1 a b) where
   -- whichever table the selector chooses, of the two
-  choice : (at next : ℕ) (named : Option NamedSpace) → HasTable at d.clusters next (option_map named_view named) a → chosen (get_or b 512 0) table_a table_b ≡ at → HasContent (record d { next_space = next; table = get_or b 512 0; named = named }) b
+  choice : (at next : ℕ) (named : Option NamedSpace) → HasTable at d.clusters next named a → chosen (get_or b 512 0) table_a table_b ≡ at → HasContent (record d { next_space = next; table = get_or b 512 0; named = named }) b
   choice at next named has is =
       let parts = stands_parts d a filled.stands in
       selected (record d { next_space = next; table = get_or b 512 0; named = named }) a b filled.stands.size size (λ i apart. outside i (⊎_elim (λ below. inl below) (λ above. inr (omega (arith, above))) apart))
-      (record { header = parts.header; table = subst (λ p. HasTable p d.clusters next (option_map named_view named) a) (sym is) has; journal = parts.journal }) (outside 513 (inr (omega arith)) ∙ filled.stands.journal) refl
+      (record { header = parts.header; table = subst (λ p. HasTable p d.clusters next named a) (sym is) has; journal = parts.journal }) (outside 513 (inr (omega arith)) ∙ filled.stands.journal) refl
 
   kept_choice : chosen (get_or b 512 0) table_a table_b ≡ chosen d.table table_a table_b → HasContent (record d { table = get_or b 512 0 }) b
   kept_choice is = choice (chosen d.table table_a table_b) d.next_space d.named (stands_parts d a filled.stands).table is

@@ -10,7 +10,9 @@ use Rattle.tq_field.specs.Places.{run_at, number_at}
 use Rattle.tq_field.specs.Digits.{number_of}
 use Rattle.tq_field.proofs.Runs.{length-run_at, get_or-run_at}
 use Rattle.tq_host.specs.Calls.{HasBytesAt, IsSameOutside}
-use Rattle.tq_model.specs.Reading.{RawHeader, RawEntry, RawTable, RawJournal, raw_header, raw_entry, raw_table, raw_journal, below, Test, test, is_reached, hold_all, header_tests, table_tests, has_space, entry_tests, journal_tests, unbuilt_tests, unbuilt_entry_tests, unbuilt_journal_tests}
+use Rattle.tq_model.specs.DeviceForm.{RawHeader, raw_header}
+use Rattle.tq_device.specs.FirstEntry.{FirstEntry, TableStart, JournalStart, first_entry, table_start, journal_start, is_reached, has_space}
+use Rattle.tq_model.specs.Reading.{below, hold_all, header_tests}
 use Rattle.tq_model.specs.Names.{is_name}
 use Rattle.tq_model.specs.Site.{last_space, header_clusters, most_pages, clusters_for}
 use Rattle.tq_device.specs.Parts.{is_header, is_base, is_entry, is_journal, is_device}
@@ -87,7 +89,7 @@ header_same a b long_a long_b same =
 
 -- a table up to its entries
 pub base_same : (p q : ℕ) (a b : List ℕ) → p + 2596 ≤ length a → q + 2596 ≤ length b → AreSame 2596 p q a b
-    → (run_at p 4 a ≡ run_at q 4 b) × (number_at (p + 4) 4 a ≡ number_at (q + 4) 4 b) × ((raw_table p a).used ≡ (raw_table q b).used)
+    → (run_at p 4 a ≡ run_at q 4 b) × (number_at (p + 4) 4 a ≡ number_at (q + 4) 4 b) × ((table_start p a).used ≡ (table_start q b).used)
 base_same p q a b long_a long_b same = (
   same_runs p q 4 a b (omega arith) (omega arith) (shifted p q p q 0 2596 4 a b same (omega arith) (omega arith) (omega arith)),
   number_in p q 2596 4 4 a b same long_a long_b (omega arith),
@@ -98,7 +100,7 @@ base_same p q a b long_a long_b same = (
 )
 
 -- an entry, whose name lies within the bytes
-pub entry_same : (p q : ℕ) (a b : List ℕ) → p + 2596 ≤ length a → q + 2596 ≤ length b → AreSame 2596 p q a b → get_or a (p + 33) 0 ≤ 255 → raw_entry p a ≡ raw_entry q b
+pub entry_same : (p q : ℕ) (a b : List ℕ) → p + 2596 ≤ length a → q + 2596 ≤ length b → AreSame 2596 p q a b → get_or a (p + 33) 0 ≤ 255 → first_entry p a ≡ first_entry q b
 entry_same p q a b long_a long_b same short =
     let size : get_or a (p + 33) 0 ≡ get_or b (q + 33) 0 = same 33 (omega arith) in
     let name : run_at (p + 34) (get_or a (p + 33) 0) a ≡ run_at (q + 34) (get_or b (q + 33) 0) b =
@@ -110,81 +112,19 @@ entry_same p q a b long_a long_b same short =
     let count = number_in p q 2596 2594 2 a b same long_a long_b (omega arith) in
     cc
 
-pub table_same : (p q : ℕ) (a b : List ℕ) → p + 2596 ≤ length a → q + 2596 ≤ length b → AreSame 2596 p q a b → get_or a (p + 33) 0 ≤ 255 → raw_table p a ≡ raw_table q b
+pub table_same : (p q : ℕ) (a b : List ℕ) → p + 2596 ≤ length a → q + 2596 ≤ length b → AreSame 2596 p q a b → get_or a (p + 33) 0 ≤ 255 → table_start p a ≡ table_start q b
 table_same p q a b long_a long_b same short =
     let base = base_same p q a b long_a long_b same in
     let entry = entry_same p q a b long_a long_b same short in
-    ap (λ (m : List ℕ). record { mark = m; next = (raw_table p a).next; used = (raw_table p a).used; entry = raw_entry p a }) base.0
-    ∙ ap (λ (n : ℕ). record { mark = run_at q 4 b; next = n; used = (raw_table p a).used; entry = raw_entry p a }) base.1
-    ∙ ap (λ (u : List ℕ). record { mark = run_at q 4 b; next = number_at (q + 4) 4 b; used = u; entry = raw_entry p a }) base.2
-    ∙ ap (λ (e : RawEntry). record { mark = run_at q 4 b; next = number_at (q + 4) 4 b; used = (raw_table q b).used; entry = e }) entry
+    ap (λ (m : List ℕ). record { mark = m; next = (table_start p a).next; used = (table_start p a).used; entry = first_entry p a }) base.0
+    ∙ ap (λ (n : ℕ). record { mark = run_at q 4 b; next = n; used = (table_start p a).used; entry = first_entry p a }) base.1
+    ∙ ap (λ (u : List ℕ). record { mark = run_at q 4 b; next = number_at (q + 4) 4 b; used = u; entry = first_entry p a }) base.2
+    ∙ ap (λ (e : FirstEntry). record { mark = run_at q 4 b; next = number_at (q + 4) 4 b; used = (table_start q b).used; entry = e }) entry
 
-pub journal_same : (p q : ℕ) (a b : List ℕ) → p + 1025 ≤ length a → q + 1025 ≤ length b → AreSame 1025 p q a b → raw_journal p a ≡ raw_journal q b
+pub journal_same : (p q : ℕ) (a b : List ℕ) → p + 1025 ≤ length a → q + 1025 ≤ length b → AreSame 1025 p q a b → journal_start p a ≡ journal_start q b
 journal_same p q a b long_a long_b same =
     let mark = same_runs p q 4 a b (omega arith) (omega arith) (shifted p q p q 0 1025 4 a b same (omega arith) (omega arith) (omega arith)) in
     let epoch = number_in p q 1025 4 4 a b same long_a long_b (omega arith) in
     let decided : get_or a (p + 8) 0 ≡ get_or b (q + 8) 0 = same 8 (omega arith) in
-    let decision_epoch = number_in p q 1025 12 4 a b same long_a long_b (omega arith) in
     let gate : get_or a (p + 1024) 0 ≡ get_or b (q + 1024) 0 = same 1024 (omega arith) in
     cc
-
--- Tests
-
-hold_append : (xs ys : List Test) → hold_all (xs ++ ys) ≡ (hold_all xs && hold_all ys)
-hold_append xs ys = list_all-append (λ (t : Test). t.holds) xs ys
-
--- tests in the order of the list, and by their parts
-shuffled : (h t e j u x y : Bool) → (h && t && e && j && (u && x && y)) ≡ (h && (t && u && (e && x) && (j && y)))
-shuffled false t e j u x y = refl
-shuffled true false e j u x y = refl
-shuffled true true false j false x y = refl
-shuffled true true false j true x y = refl
-shuffled true true true false false x y = refl
-shuffled true true true false true false y = refl
-shuffled true true true false true true y = refl
-shuffled true true true true u x y = refl
-
-entry_shuffled : (n o p r a f : Bool) → ((n && (o && (p && (r && true)))) && (a && (f && true))) ≡ (n && (o && p && (r && (a && f))))
-entry_shuffled false o p r a f = refl
-entry_shuffled true false p r a f = refl
-entry_shuffled true true false r a f = refl
-entry_shuffled true true true false a f = refl
-entry_shuffled true true true true false f = refl
-entry_shuffled true true true true true false = refl
-entry_shuffled true true true true true true = refl
-
-base_shuffled : (m n u : Bool) → (m && (n && (u && true))) ≡ (m && n && u)
-base_shuffled false n u = refl
-base_shuffled true false u = refl
-base_shuffled true true false = refl
-base_shuffled true true true = refl
-
-listed : (hs ts es js xs ys : List Test) (u : Test) → hold_all (hs ++ ts ++ es ++ js ++ (u ∷ xs ++ ys)) ≡ (hold_all hs && hold_all ts && hold_all es && hold_all js && (u.holds && hold_all xs && hold_all ys))
-listed hs ts es js xs ys u =
-    hold_append (hs ++ ts ++ es ++ js) (u ∷ xs ++ ys)
-    ∙ ap (λ (b : Bool). b && hold_all (u ∷ xs ++ ys)) (hold_append (hs ++ ts ++ es) js ∙ ap (λ (b : Bool). b && hold_all js) (hold_append (hs ++ ts) es ∙ ap (λ (b : Bool). b && hold_all es) (hold_append hs ts)))
-    ∙ ap (λ (b : Bool). hold_all hs && hold_all ts && hold_all es && hold_all js && b) (hold_append (u ∷ xs) ys)
-
--- with the tests of an entry or without them
-by_use : (used h t j u y : Bool) (es xs : List Test)
-    → (h && t && hold_all (if used then es else []) && j && (u && hold_all (if used then xs else []) && y)) ≡ (h && (t && u && (if used then hold_all es && hold_all xs else true) && (j && y)))
-by_use true h t j u y es xs = shuffled h t (hold_all es) j u (hold_all xs) y
-by_use false h t j u y es xs = shuffled h t true j u true y
-
-base_parts : (at : ℕ) (t : RawTable) → (hold_all (table_tests at t) && list_all (λ used. used == 0) (drop 1 t.used)) ≡ is_base t
-base_parts at t = ap (λ (b : Bool). b && list_all (λ used. used == 0) (drop 1 t.used)) (base_shuffled (bytes_eq t.mark (codes "TQTB")) (nat_le 1 t.next && nat_le t.next last_space) (list_all (λ used. nat_le used 1) t.used))
-
-entry_parts : (at next clusters size : ℕ) (e : RawEntry) → (hold_all (entry_tests at next clusters size e) && hold_all (unbuilt_entry_tests at e)) ≡ is_entry next clusters size e
-entry_parts at next clusters size e =
-    entry_shuffled (is_name e.name) (nat_le 1 e.ordinal && nat_lt e.ordinal next) (nat_le 1 e.pages && nat_le e.pages most_pages) (e.count == clusters_for e.pages && is_reached e.count clusters size) (e.extents == 1) (e.first == header_clusters)
-
-pub whole_parts : (size : ℕ) (h : RawHeader) (t : RawTable) (j : RawJournal)
-    → hold_all (header_tests 0 h ++ table_tests h.table t ++ (if has_space t then entry_tests h.table t.next h.clusters size t.entry else []) ++ journal_tests h.journal j ++ unbuilt_tests 0 h.table t h.journal j) ≡ is_device size h t j
-whole_parts size h t j =
-    let es = entry_tests h.table t.next h.clusters size t.entry in
-    let xs = unbuilt_entry_tests h.table t.entry in
-    let single = list_all (λ used. used == 0) (drop 1 t.used) in
-    listed (header_tests 0 h) (table_tests h.table t) (if has_space t then es else []) (journal_tests h.journal j) (if has_space t then xs else []) (unbuilt_journal_tests h.journal j) (test (h.table + 192) single)
-    ∙ by_use (has_space t) (hold_all (header_tests 0 h)) (hold_all (table_tests h.table t)) (hold_all (journal_tests h.journal j)) single (hold_all (unbuilt_journal_tests h.journal j)) es xs
-    ∙ ap (λ (b : Bool). is_header h && (b && (if has_space t then hold_all es && hold_all xs else true) && is_journal j)) (base_parts h.table t)
-    ∙ ap (λ (b : Bool). is_header h && (is_base t && (if has_space t then b else true) && is_journal j)) (entry_parts h.table t.next h.clusters size t.entry)

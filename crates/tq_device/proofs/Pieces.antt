@@ -1,8 +1,9 @@
 -- How the pieces of a call go on.
-use Rattle.std.proofs.Common.{inl, inr, ⊎_elim, ℕ, List, sym, subst, Result, Ok, Err}
+use Rattle.std.proofs.Common.{ℕ, List, sym, subst, Result, Ok, Err}
 use Rattle.std.specs.Prelude.{OnOk}
 use Rattle.tq_host.specs.View.{Told, View, IsLawful, IsSettled}
-use Rattle.tq_host.specs.Within.{Came, Within}
+use Rattle.tq_host.specs.Within.{Within}
+use Rattle.tq_host.proofs.Within.{wider}
 use Rattle.tq_device.specs.Content.{IsAny}
 
 -- where it is so in any case, it is so at Ok
@@ -22,15 +23,4 @@ settled_has P dev v lawful settled has c may = subst P (sym (settled c may)) (ha
 -- A call whose images come from the start by a step R: where the images at the start have P, they have Q and come by S.
 pub refined : (dev : ℕ) (R S : List ℕ → List ℕ → Type 0) (P Q : List ℕ → Type 0) (start now : View) → ((c : List ℕ) → start.may_leave dev c → P c) → ((b c : List ℕ) → P b → R b c → S b c × Q c)
     → Within dev R IsAny start now → Within dev S Q start now
-refined dev R S P Q start now has to call =
-    let came : (c : List ℕ) → Came dev R IsAny start c → Came dev S Q start c = λ c a.
-    let stepped = to a.image c (has a.image a.was) a.step in
-    record { image = a.image; was = a.was; step = stepped.0; now = stepped.1 } in
-    record {
-      later = call.later;
-      own = λ c may. came c (call.own c may);
-      others = call.others;
-      others_read = call.others_read;
-      streams = call.streams;
-      pictures = λ t p le left. ⊎_elim (λ old. inl old) (λ a. inr (record { own = came (p.images dev) a.own; others = a.others; output = a.output })) (call.pictures t p le left);
-    }
+refined dev R S P Q start now has to call = wider dev R S IsAny Q start now (λ b c may step any. to b c (has b may) step) call

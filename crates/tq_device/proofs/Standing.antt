@@ -1,6 +1,6 @@
 -- An image holds a content where its parts do.
 use Rattle.std.proofs.Common.{◌≡◌, ◌<◌, ◌≤◌, ℕ, suc, ◌+◌, ◌∷◌, ◌*◌, ◌&&◌, Bool, true, false, List, length, get_or, Option, Some, None, ◌⊎◌, inl, inr, ⊎_elim, refl, sym, ◌∙◌, ap, subst, arith}
-use Rattle.std.specs.Prelude.{◌==◌, nat_le, nat_lt, drop, codes, option_map, if◌then◌else◌}
+use Rattle.std.specs.Prelude.{◌==◌, nat_le, nat_lt, drop, codes, option_map, unwrap_or, if◌then◌else◌}
 use Rattle.std.specs.List.{list_all}
 use Rattle.std.specs.Str.{bytes_eq}
 use Rattle.std.proofs.lemmas.Bool.{and_parts, and_from, cases_Bool, le-leb, lt-ltb, eq-eqb, leb-true, ltb-true, eqb-true, eqb-false}
@@ -9,99 +9,32 @@ use Rattle.tq_field.specs.Places.{run_at, number_at}
 use Rattle.tq_host.specs.Calls.{IsSameOutside}
 use Rattle.tq_model.specs.Names.{is_name}
 use Rattle.tq_model.specs.Site.{last_space, header_clusters, most_pages, clusters_for}
-use Rattle.tq_model.specs.Reading.{RawHeader, RawEntry, RawTable, RawJournal, raw_header, raw_entry, raw_table, raw_journal, is_reached, header_bytes, has_space, NamedSpace, named_in, DevicePart, chosen, table_a, table_b, journal_a, journal_b}
+use Rattle.tq_model.specs.DeviceForm.{RawHeader, raw_header, header_bytes, chosen, table_a, table_b, journal_a, journal_b}
+use Rattle.tq_device.specs.FirstEntry.{FirstEntry, TableStart, JournalStart, first_entry, table_start, journal_start, is_reached, has_space, named_in}
+use Rattle.tq_device.specs.declared.content.NamedSpace.{NamedSpace}
+use Rattle.tq_model.specs.Reading.{DevicePart}
+use Rattle.tq_model.specs.DeviceForm.{Journal}
+use Rattle.tq_model.specs.Parts.{table_with}
+use Rattle.tq_model.specs.Reading as read
 use Rattle.tq_model.proofs.NameTests.{name_from_test}
 use Rattle.tq_device.specs.declared.content.DeviceContent.{DeviceContent}
-use Rattle.tq_device.specs.Content.{HasContent, named_view, part_of}
+use Rattle.tq_device.specs.Content.{HasContent, named_view, journal_view, part_of}
 use Rattle.tq_device.specs.Parts.{is_header, is_headed, is_base, is_numbered, has_clusters, is_first, is_placed, is_entry, is_table, is_journal, HasHeader, entry_of, IsEntered, IsFitting, IsTable, HasTable, HasJournal, part_in}
+use Rattle.tq_device.proofs.EntryLemmas.{Fits, entry_fits, fits_entry, entry_known, fits_longer}
+use Rattle.tq_device.proofs.TableLemmas.{first_used, whole_parts, part_is}
 use Rattle.tq_device.proofs.Areas.{chosen_least, chosen_most}
 use Rattle.tq_device.proofs.Unused.{single_used, single_decides}
-use Rattle.tq_device.proofs.Parts.{AreSame, whole_parts, base_same, entry_same, journal_same, run_in, number_in}
-
--- Entries
-
--- what the tests of an entry say
-pub record Fits (next clusters size : ℕ) (e : RawEntry) : Type 0 where
-  pub name : is_name e.name ≡ true
-  pub ordinal_least : 1 ≤ e.ordinal
-  pub ordinal_below : e.ordinal < next
-  pub pages_least : 1 ≤ e.pages
-  pub pages_most : e.pages ≤ most_pages
-  pub count_is : e.count ≡ clusters_for e.pages
-  pub within : header_clusters + e.count ≤ clusters
-  pub reached : header_bytes + 32768 * e.count ≤ size
-  pub extents_one : e.extents ≡ 1
-  pub first_is : e.first ≡ header_clusters
-
-pub entry_fits : (next clusters size : ℕ) (e : RawEntry) → is_entry next clusters size e ≡ true → Fits next clusters size e
-entry_fits next clusters size e is =
-    let whole = and_parts (is_name e.name) (is_placed next clusters size e) is in
-    let placed = and_parts (is_numbered next e) (has_clusters clusters size e && is_first e) whole.1 in
-    let rest = and_parts (has_clusters clusters size e) (is_first e) placed.1 in
-    let numbers = and_parts (nat_le 1 e.ordinal && nat_lt e.ordinal next) (nat_le 1 e.pages && nat_le e.pages most_pages) placed.0 in
-    let ordinal = and_parts (nat_le 1 e.ordinal) (nat_lt e.ordinal next) numbers.0 in
-    let page = and_parts (nat_le 1 e.pages) (nat_le e.pages most_pages) numbers.1 in
-    let counts = and_parts (e.count == clusters_for e.pages) (is_reached e.count clusters size) rest.0 in
-    let reach = and_parts (nat_le (header_clusters + e.count) clusters) (nat_le (header_bytes + 32768 * e.count) size) counts.1 in
-    let one = and_parts (e.extents == 1) (e.first == header_clusters) rest.1 in
-    record {
-      name = whole.0;
-      ordinal_least = leb-true 1 e.ordinal ordinal.0;
-      ordinal_below = ltb-true e.ordinal next ordinal.1;
-      pages_least = leb-true 1 e.pages page.0;
-      pages_most = leb-true e.pages most_pages page.1;
-      count_is = eqb-true e.count (clusters_for e.pages) counts.0;
-      within = leb-true (header_clusters + e.count) clusters reach.0;
-      reached = leb-true (header_bytes + 32768 * e.count) size reach.1;
-      extents_one = eqb-true e.extents 1 one.0;
-      first_is = eqb-true e.first header_clusters one.1;
-    }
-
-pub fits_entry : (next clusters size : ℕ) (e : RawEntry) → Fits next clusters size e → is_entry next clusters size e ≡ true
-fits_entry next clusters size e fits =
-    let ordinal = and_from (nat_le 1 e.ordinal) (nat_lt e.ordinal next) (le-leb 1 e.ordinal fits.ordinal_least) (lt-ltb e.ordinal next fits.ordinal_below) in
-    let page = and_from (nat_le 1 e.pages) (nat_le e.pages most_pages) (le-leb 1 e.pages fits.pages_least) (le-leb e.pages most_pages fits.pages_most) in
-    let numbered = and_from (nat_le 1 e.ordinal && nat_lt e.ordinal next) (nat_le 1 e.pages && nat_le e.pages most_pages) ordinal page in
-    let reach = and_from (nat_le (header_clusters + e.count) clusters) (nat_le (header_bytes + 32768 * e.count) size) (le-leb (header_clusters + e.count) clusters fits.within) (le-leb (header_bytes + 32768 * e.count) size fits.reached) in
-    let counted = and_from (e.count == clusters_for e.pages) (is_reached e.count clusters size) (eq-eqb e.count (clusters_for e.pages) fits.count_is) reach in
-    let one = and_from (e.extents == 1) (e.first == header_clusters) (eq-eqb e.extents 1 fits.extents_one) (eq-eqb e.first header_clusters fits.first_is) in
-    and_from (is_name e.name) (is_placed next clusters size e) fits.name (and_from (is_numbered next e) (has_clusters clusters size e && is_first e) numbered (and_from (has_clusters clusters size e) (is_first e) counted one))
-
--- an entry is that of the space that it names
-entry_known : (e : RawEntry) → e.extents ≡ 1 → e.first ≡ header_clusters → e.count ≡ clusters_for e.pages → e ≡ entry_of (record { name = e.name; ordinal = e.ordinal; pages = e.pages })
-entry_known e one first count =
-    ap (λ (x : ℕ). record e { extents = x }) one ∙ ap (λ (x : ℕ). record e { extents = 1; first = x }) first ∙ ap (λ (x : ℕ). record e { extents = 1; first = header_clusters; count = x }) count
-
--- a longer image is reached too
-pub fits_longer : (next clusters size more : ℕ) (named : Option NamedSpace) → size ≤ more → IsFitting next clusters size named → IsFitting next clusters more named
-fits_longer next clusters size more None longer fits = tt
-fits_longer next clusters size more (Some n) longer fits =
-    let f = entry_fits next clusters size (entry_of n) fits in
-    fits_entry next clusters more (entry_of n) (record {
-      name = f.name;
-      ordinal_least = f.ordinal_least;
-      ordinal_below = f.ordinal_below;
-      pages_least = f.pages_least;
-      pages_most = f.pages_most;
-      count_is = f.count_is;
-      within = f.within;
-      reached = omega (arith, f.reached, longer);
-      extents_one = f.extents_one;
-      first_is = f.first_is;
-    })
+use Rattle.tq_device.proofs.Parts.{AreSame, base_same, entry_same, journal_same, run_in, number_in}
 
 -- Tables
 
-first_used : (at : ℕ) (image : List ℕ) → get_or (raw_table at image).used 0 0 ≡ get_or image (at + 32) 0
-first_used at image = let e : at + 32 + 160 * 0 ≡ at + 32 = omega arith in ap (λ o. get_or image o 0) e
+space_used : (at : ℕ) (image : List ℕ) → get_or image (at + 32) 0 ≡ 1 → has_space (table_start at image) ≡ true
+space_used at image one = eq-eqb (get_or (table_start at image).used 0 0) 1 (first_used at image ∙ one)
 
-space_used : (at : ℕ) (image : List ℕ) → get_or image (at + 32) 0 ≡ 1 → has_space (raw_table at image) ≡ true
-space_used at image one = eq-eqb (get_or (raw_table at image).used 0 0) 1 (first_used at image ∙ one)
-
-space_unused : (at : ℕ) (image : List ℕ) → get_or image (at + 32) 0 ≡ 0 → has_space (raw_table at image) ≡ false
+space_unused : (at : ℕ) (image : List ℕ) → get_or image (at + 32) 0 ≡ 0 → has_space (table_start at image) ≡ false
 space_unused at image none = ap (λ u. u == 1) (first_used at image ∙ none)
 
-base_true : (mark : List ℕ) (next first : ℕ) (rest : List ℕ) (e : RawEntry) → mark ≡ codes "TQTB" → 1 ≤ next → next ≤ last_space → first ≤ 1 → list_all (λ used. used == 0) rest ≡ true
+base_true : (mark : List ℕ) (next first : ℕ) (rest : List ℕ) (e : FirstEntry) → mark ≡ codes "TQTB" → 1 ≤ next → next ≤ last_space → first ≤ 1 → list_all (λ used. used == 0) rest ≡ true
     → is_base (record { mark = mark; next = next; used = first ∷ rest; entry = e }) ≡ true
 base_true mark next first rest e is_mark least most few others =
     let few_of = list_all (λ used. nat_le used 1) (first ∷ rest) in
@@ -113,27 +46,27 @@ base_true mark next first rest e is_mark least most few others =
 
 -- a base with this mark and next ordinal, of whose entries only the first may be used
 pub base_holds : (at next : ℕ) (image : List ℕ) → run_at at 4 image ≡ codes "TQTB" → number_at (at + 4) 4 image ≡ next → 1 ≤ next → next ≤ last_space → get_or image (at + 32) 0 ≤ 1
-    → ((k : ℕ) → 1 ≤ k → k < 16 → get_or image (at + 32 + 160 * k) 0 ≡ 0) → is_base (raw_table at image) ≡ true
+    → ((k : ℕ) → 1 ≤ k → k < 16 → get_or image (at + 32 + 160 * k) 0 ≡ 0) → is_base (table_start at image) ≡ true
 base_holds at next image mark is_next least most few others =
-    let used = (raw_table at image).used in
-    base_true (run_at at 4 image) (number_at (at + 4) 4 image) (get_or used 0 0) (drop 1 used) (raw_entry at image) mark (omega (arith, is_next, least)) (omega (arith, is_next, most)) (omega (arith, first_used at image, few))
+    let used = (table_start at image).used in
+    base_true (run_at at 4 image) (number_at (at + 4) 4 image) (get_or used 0 0) (drop 1 used) (first_entry at image) mark (omega (arith, is_next, least)) (omega (arith, is_next, most)) (omega (arith, first_used at image, few))
     (single_used (λ entry. get_or image (at + 32 + 160 * entry) 0) 15 (λ k lt. others (suc k) (omega arith) (omega (arith, lt))))
 
 -- the next ordinal lies between 1 and the last one
-next_range : (t : RawTable) → is_base t ≡ true → (nat_le 1 t.next ≡ true) × (nat_le t.next last_space ≡ true)
+next_range : (t : TableStart) → is_base t ≡ true → (nat_le 1 t.next ≡ true) × (nat_le t.next last_space ≡ true)
 next_range t is =
     let few = list_all (λ used. nat_le used 1) t.used in
     let headed = (and_parts (is_headed t) few (and_parts (is_headed t && few) (list_all (λ used. used == 0) (drop 1 t.used)) is).0).0 in
     and_parts (nat_le 1 t.next) (nat_le t.next last_space) (and_parts (bytes_eq t.mark (codes "TQTB")) (nat_le 1 t.next && nat_le t.next last_space) headed).1
 
-pub next_least : (t : RawTable) → is_base t ≡ true → 1 ≤ t.next
+pub next_least : (t : TableStart) → is_base t ≡ true → 1 ≤ t.next
 next_least t is = leb-true 1 t.next (next_range t is).0
 
-pub next_most : (t : RawTable) → is_base t ≡ true → t.next ≤ last_space
+pub next_most : (t : TableStart) → is_base t ≡ true → t.next ≤ last_space
 next_most t is = leb-true t.next last_space (next_range t is).1
 
 -- an unused first entry is zero
-base_few : (t : RawTable) → is_base t ≡ true → list_all (λ used. nat_le used 1) t.used ≡ true
+base_few : (t : TableStart) → is_base t ≡ true → list_all (λ used. nat_le used 1) t.used ≡ true
 base_few t is =
     (and_parts (is_headed t) (list_all (λ used. nat_le used 1) t.used) (and_parts (is_headed t && list_all (λ used. nat_le used 1) t.used) (list_all (λ used. used == 0) (drop 1 t.used)) is).0).1
 
@@ -141,10 +74,10 @@ first_few : (first : ℕ) (rest : List ℕ) → list_all (λ used. nat_le used 1
 first_few first rest all = leb-true first 1 (and_parts (nat_le first 1) (list_all (λ used. nat_le used 1) rest) all).0
 
 -- what the tests of a table say
-pub table_from : (at clusters : ℕ) (image : List ℕ) → is_table clusters (length image) (raw_table at image) ≡ true
-    → HasTable at clusters (number_at (at + 4) 4 image) (named_in (raw_table at image)) image
+pub table_from : (at clusters : ℕ) (image : List ℕ) → is_table clusters (length image) (table_start at image) ≡ true
+    → HasTable at clusters (number_at (at + 4) 4 image) (named_in (table_start at image)) image
 table_from at clusters image is =
-    let t = raw_table at image in
+    let t = table_start at image in
     let n : NamedSpace = record { name = t.entry.name; ordinal = t.entry.ordinal; pages = t.entry.pages } in
     let entry = is_entry t.next clusters (length image) t.entry in
     let parts = and_parts (is_base t) (if has_space t then entry else true) is in
@@ -156,7 +89,7 @@ table_from at clusters image is =
           let is_one : get_or image (at + 32) 0 ≡ 1 = sym (first_used at image) ∙ eqb-true (get_or t.used 0 0) 1 used in
           let same : t.entry ≡ entry_of n = entry_known t.entry fits.extents_one fits.first_is fits.count_is in
           subst (λ (o : Option NamedSpace). HasTable at clusters t.next o image) (sym named)
-          (record { bytes = record { holds = parts.0; next_is = refl; entry = (is_one, same) }; fits = ap (λ (e : RawEntry). is_entry t.next clusters (length image) e) (sym same) ∙ passes })
+          (record { bytes = record { holds = parts.0; next_is = refl; entry = (is_one, same) }; fits = ap (λ (e : FirstEntry). is_entry t.next clusters (length image) e) (sym same) ∙ passes })
       | inr unused ↦
           let named : named_in t ≡ None = ap (λ (b : Bool). if b then Some n else None) unused in
           let few : get_or t.used 0 0 ≤ 1 = first_few (get_or t.used 0 0) (drop 1 t.used) (base_few t parts.0) in
@@ -167,21 +100,21 @@ table_from at clusters image is =
 
 -- and that it has them where it says so
 pub table_whole : (at clusters next : ℕ) (named : Option NamedSpace) (image : List ℕ) → HasTable at clusters next named image
-    → (is_table clusters (length image) (raw_table at image) ≡ true) × (named_in (raw_table at image) ≡ named)
+    → (is_table clusters (length image) (table_start at image) ≡ true) × (named_in (table_start at image) ≡ named)
 table_whole at clusters next None image has =
-    let t = raw_table at image in
+    let t = table_start at image in
     let unused = space_unused at image has.bytes.entry in
     let rest : (if has_space t then is_entry t.next clusters (length image) t.entry else true) ≡ true = ap (λ (b : Bool). if b then is_entry t.next clusters (length image) t.entry else true) unused in
     let n : NamedSpace = record { name = t.entry.name; ordinal = t.entry.ordinal; pages = t.entry.pages } in
     (and_from (is_base t) (if has_space t then is_entry t.next clusters (length image) t.entry else true) has.bytes.holds rest, ap (λ (b : Bool). if b then Some n else None) unused)
 table_whole at clusters next (Some n) image has =
-    let t = raw_table at image in
+    let t = table_start at image in
     let used = space_used at image has.bytes.entry.0 in
     let is = has.bytes.entry.1 in
     let passes : is_entry t.next clusters (length image) t.entry ≡ true =
-    ap (λ (o : ℕ). is_entry o clusters (length image) t.entry) has.bytes.next_is ∙ ap (λ (e : RawEntry). is_entry next clusters (length image) e) is ∙ has.fits in
+    ap (λ (o : ℕ). is_entry o clusters (length image) t.entry) has.bytes.next_is ∙ ap (λ (e : FirstEntry). is_entry next clusters (length image) e) is ∙ has.fits in
     let rest : (if has_space t then is_entry t.next clusters (length image) t.entry else true) ≡ true = ap (λ (b : Bool). if b then is_entry t.next clusters (length image) t.entry else true) used ∙ passes in
-    let named : RawEntry → Option NamedSpace = λ e. Some (record { name = e.name; ordinal = e.ordinal; pages = e.pages }) in (
+    let named : FirstEntry → Option NamedSpace = λ e. Some (record { name = e.name; ordinal = e.ordinal; pages = e.pages }) in (
       and_from (is_base t) (if has_space t then is_entry t.next clusters (length image) t.entry else true) has.bytes.holds rest,
       ap (λ (b : Bool). if b then named t.entry else None) used ∙ ap named is,
     )
@@ -198,7 +131,7 @@ named_short at next clusters size None image long is fits = tt
 named_short at next clusters size (Some n) image long is fits =
     let f = entry_fits next clusters size (entry_of n) fits in
     let name = name_from_test n.name f.name in
-    let run : length (run_at (at + 34) (get_or image (at + 33) 0) image) ≡ length n.name = ap (λ (e : RawEntry). length e.name) is.1 in
+    let run : length (run_at (at + 34) (get_or image (at + 33) 0) image) ≡ length n.name = ap (λ (e : FirstEntry). length e.name) is.1 in
     omega (arith, name.most, run, length-take (get_or image (at + 33) 0) (drop (at + 34) image), length-drop (at + 34) image, long)
 
 entered_moved : (p q : ℕ) (named : Option NamedSpace) (a b : List ℕ) → p + 2596 ≤ length a → q + 2596 ≤ length b → AreSame 2596 p q a b → IsByteLong p named a → IsEntered p named a → IsEntered q named b
@@ -209,10 +142,10 @@ pub table_moved : (p q next : ℕ) (named : Option NamedSpace) (a b : List ℕ) 
     → IsTable p next named a → IsTable q next named b
 table_moved p q next named a b long_a long_b same short is =
     let base = base_same p q a b long_a long_b same in
-    let test : List ℕ → ℕ → List ℕ → Bool = λ m n u. is_base (record { mark = m; next = n; used = u; entry = raw_entry p a }) in
+    let test : List ℕ → ℕ → List ℕ → Bool = λ m n u. is_base (record { mark = m; next = n; used = u; entry = first_entry p a }) in
     record {
-      holds = sym (ap (λ (m : List ℕ). test m (number_at (p + 4) 4 a) (raw_table p a).used) base.0
-          ∙ ap (λ (n : ℕ). test (run_at q 4 b) n (raw_table p a).used) base.1
+      holds = sym (ap (λ (m : List ℕ). test m (number_at (p + 4) 4 a) (table_start p a).used) base.0
+          ∙ ap (λ (n : ℕ). test (run_at q 4 b) n (table_start p a).used) base.1
           ∙ ap (λ (u : List ℕ). test (run_at q 4 b) (number_at (q + 4) 4 b) u) base.2) ∙ is.holds;
       next_is = sym base.1 ∙ is.next_is;
       entry = entered_moved p q named a b long_a long_b same short is.entry;
@@ -245,42 +178,54 @@ header_kept site clusters a b long_a long_b same has =
 pub journal_kept : (p q epoch : ℕ) (a b : List ℕ) → p + 1025 ≤ length a → q + 1025 ≤ length b → AreSame 1025 p q a b → HasJournal p epoch a → HasJournal q epoch b
 journal_kept p q epoch a b long_a long_b same has =
     let is = sym (journal_same p q a b long_a long_b same) in
-    record { holds = ap is_journal is ∙ has.holds; epoch_is = ap (λ (j : RawJournal). j.epoch) is ∙ has.epoch_is }
+    record { holds = ap is_journal is ∙ has.holds; epoch_is = ap (λ (j : JournalStart). j.epoch) is ∙ has.epoch_is }
 
 -- Contents
 
 pub record HasParts (d : DeviceContent) (image : List ℕ) : Type 0 where
   pub header : HasHeader d.site d.clusters image
-  pub table : HasTable (chosen d.table table_a table_b) d.clusters d.next_space (option_map named_view d.named) image
+  pub table : HasTable (chosen d.table table_a table_b) d.clusters d.next_space d.named image
   pub journal : HasJournal (chosen d.journal journal_a journal_b) d.epoch image
+
+-- a space that is named is known by its view
+named_back : (a b : Option NamedSpace) → option_map named_view a ≡ option_map named_view b → a ≡ b
+named_back a b is = sym (back a) ∙ ap (option_map unnamed) is ∙ back b
+  where
+    unnamed : read.NamedSpace → NamedSpace
+    unnamed n = record { name = n.name; ordinal = n.ordinal; pages = n.pages }
+
+    back : (o : Option NamedSpace) → option_map unnamed (option_map named_view o) ≡ o
+    back None = refl
+    back (Some n) = refl
 
 pub stands_parts : (d : DeviceContent) (image : List ℕ) → HasContent d image → HasParts d image
 stands_parts d image stands =
     let h = raw_header image in
-    let t = raw_table h.table image in
-    let j = raw_journal h.journal image in
+    let t = table_start h.table image in
+    let j = journal_start h.journal image in
     let at_t : h.table ≡ chosen d.table table_a table_b = ap (λ s. chosen s table_a table_b) stands.table in
     let at_j : h.journal ≡ chosen d.journal journal_a journal_b = ap (λ s. chosen s journal_a journal_b) stands.journal in
-    let whole = sym (whole_parts (length image) h t j) ∙ stands.tests in
+    let whole = sym (whole_parts image) ∙ stands.tests in
+    let is = sym (part_is image whole) ∙ stands.part in
     let parts = and_parts (is_header h) (is_table h.clusters (length image) t && is_journal j) whole in
     let rest = and_parts (is_table h.clusters (length image) t) (is_journal j) parts.1 in
-    let clusters : h.clusters ≡ d.clusters = ap (λ (p : DevicePart). p.clusters) stands.part in
-    let next : t.next ≡ d.next_space = ap (λ (p : DevicePart). p.next_space) stands.part in
-    let named : named_in t ≡ option_map named_view d.named = ap (λ (p : DevicePart). p.named) stands.part in
-    let epoch : j.epoch ≡ d.epoch = ap (λ (p : DevicePart). p.epoch) stands.part in
+    let clusters : h.clusters ≡ d.clusters = ap (λ (p : DevicePart). p.clusters) is in
+    let next : t.next ≡ d.next_space = ap (λ (p : DevicePart). p.next_space) is in
+    let named : named_in t ≡ d.named = named_back (named_in t) d.named (ap (λ (p : DevicePart). get_or p.entries 0 None) is) in
+    let epoch : j.epoch ≡ d.epoch = ap (λ (p : DevicePart). unwrap_or (option_map (λ (k : Journal). k.epoch) p.journal) 0) is in
     record {
-      header = record { holds = parts.0; site_is = ap (λ (p : DevicePart). p.site) stands.part; clusters_are = clusters };
+      header = record { holds = parts.0; site_is = ap (λ (p : DevicePart). p.site) is; clusters_are = clusters };
       table =
-          subst (λ at. HasTable at d.clusters d.next_space (option_map named_view d.named) image) at_t
-          (subst (λ c. HasTable h.table c d.next_space (option_map named_view d.named) image) clusters
-          (subst (λ n. HasTable h.table h.clusters n (option_map named_view d.named) image) next
+          subst (λ at. HasTable at d.clusters d.next_space d.named image) at_t
+          (subst (λ c. HasTable h.table c d.next_space d.named image) clusters
+          (subst (λ n. HasTable h.table h.clusters n d.named image) next
           (subst (λ (o : Option NamedSpace). HasTable h.table h.clusters t.next o image) named (table_from h.table h.clusters image rest.0))));
       journal = subst (λ at. HasJournal at d.epoch image) at_j (record { holds = rest.1; epoch_is = epoch });
     }
 
-pub part_known : (h : RawHeader) (t : RawTable) (j : RawJournal) (d : DeviceContent) → h.site ≡ d.site → h.clusters ≡ d.clusters → t.next ≡ d.next_space → j.epoch ≡ d.epoch → named_in t ≡ option_map named_view d.named → part_in h t j ≡ part_of d
+pub part_known : (h : RawHeader) (t : TableStart) (j : JournalStart) (d : DeviceContent) → h.site ≡ d.site → h.clusters ≡ d.clusters → t.next ≡ d.next_space → j.epoch ≡ d.epoch → named_in t ≡ d.named → part_in h t j ≡ part_of d
 part_known h t j d site clusters next epoch named =
-    let part : ℕ → ℕ → ℕ → ℕ → Option NamedSpace → DevicePart = λ s l n e o. record { site = s; clusters = l; next_space = n; epoch = e; named = o } in
+    let part : ℕ → ℕ → ℕ → ℕ → Option NamedSpace → DevicePart = λ s l n e o. record { site = s; clusters = l; next_space = n; journal = Some (journal_view e); entries = table_with (option_map named_view o) } in
     ap (λ (s : ℕ). part s h.clusters t.next j.epoch (named_in t)) site
     ∙ ap (λ (l : ℕ). part d.site l t.next j.epoch (named_in t)) clusters
     ∙ ap (λ (n : ℕ). part d.site d.clusters n j.epoch (named_in t)) next
@@ -290,23 +235,24 @@ part_known h t j d site clusters next epoch named =
 pub parts_stand : (d : DeviceContent) (image : List ℕ) → 131072 ≤ length image → get_or image 513 0 ≡ d.journal → get_or image 512 0 ≡ d.table → HasParts d image → HasContent d image
 parts_stand d image long journal_byte table_byte has =
     let h = raw_header image in
-    let t = raw_table h.table image in
-    let j = raw_journal h.journal image in
+    let t = table_start h.table image in
+    let j = journal_start h.journal image in
     let at_t : chosen d.table table_a table_b ≡ h.table = sym (ap (λ s. chosen s table_a table_b) table_byte) in
     let at_j : chosen d.journal journal_a journal_b ≡ h.journal = sym (ap (λ s. chosen s journal_a journal_b) journal_byte) in
-    let table = subst (λ at. HasTable at h.clusters d.next_space (option_map named_view d.named) image) at_t
-    (subst (λ c. HasTable (chosen d.table table_a table_b) c d.next_space (option_map named_view d.named) image) (sym has.header.clusters_are) has.table) in
+    let table = subst (λ at. HasTable at h.clusters d.next_space d.named image) at_t
+    (subst (λ c. HasTable (chosen d.table table_a table_b) c d.next_space d.named image) (sym has.header.clusters_are) has.table) in
     let journal = subst (λ at. HasJournal at d.epoch image) at_j has.journal in
-    let whole = table_whole h.table h.clusters d.next_space (option_map named_view d.named) image table in
+    let whole = table_whole h.table h.clusters d.next_space d.named image table in
     let site = has.header.site_is in
     let clusters = has.header.clusters_are in
     let next = table.bytes.next_is in
     let epoch = journal.epoch_is in
     let named = whole.1 in
+    let holds = and_from (is_header h) (is_table h.clusters (length image) t && is_journal j) has.header.holds (and_from (is_table h.clusters (length image) t) (is_journal j) whole.0 journal.holds) in
     record {
       size = long;
-      tests = whole_parts (length image) h t j ∙ and_from (is_header h) (is_table h.clusters (length image) t && is_journal j) has.header.holds (and_from (is_table h.clusters (length image) t) (is_journal j) whole.0 journal.holds);
-      part = part_known h t j d site clusters next epoch named;
+      tests = whole_parts image ∙ holds;
+      part = part_is image holds ∙ part_known h t j d site clusters next epoch named;
       journal = journal_byte;
       table = table_byte;
     }
@@ -321,7 +267,7 @@ parts_kept d a b long longer first table journal parts =
     let end_j = chosen_most d.journal journal_a journal_b (omega arith) in
     record {
       header = header_kept d.site d.clusters a b (omega (arith, long)) (omega (arith, long, longer)) first parts.header;
-      table = table_kept at_t at_t d.clusters d.next_space (option_map named_view d.named) a b (omega (arith, end_t, long)) (omega (arith, end_t, long, longer)) longer table parts.table;
+      table = table_kept at_t at_t d.clusters d.next_space d.named a b (omega (arith, end_t, long)) (omega (arith, end_t, long, longer)) longer table parts.table;
       journal = journal_kept at_j at_j d.epoch a b (omega (arith, end_j, long)) (omega (arith, end_j, long, longer)) journal parts.journal;
     }
 

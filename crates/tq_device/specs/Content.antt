@@ -1,23 +1,29 @@
 -- What a device 0 holds outside its space's own pages, as its reading says.
 use Rattle.std.specs.Prelude.{◌≡◌, ◌⊎◌, ◌<◌, ◌≤◌, ◌+◌, ◌-◌, ◌%◌, ℕ, List, length, get_or, true, false, Option, Some, None, option_map}
 use Rattle.tq_model.specs.Reading as read
+use Rattle.tq_model.specs.DeviceForm.{Journal}
+use Rattle.tq_model.specs.Parts.{table_with, first_extents}
 use Rattle.tq_model.specs.Reading.{DevicePart, device_part, device_tests, hold_all}
 use Rattle.tq_device.specs.declared.content.NamedSpace.{NamedSpace}
 use Rattle.tq_device.specs.declared.content.DeviceContent.{DeviceContent}
 use Rattle.tq_device.specs.declared.content.Found.{Found}
 use Rattle.tq_device.specs.declared.content.Found.TheVariants as found
 
+-- the space in the first entry, in the first clusters
 abbrev pub named_view : NamedSpace → read.NamedSpace
-named_view n = record { name = n.name; ordinal = n.ordinal; pages = n.pages }
+named_view n = record { name = n.name; ordinal = n.ordinal; pages = n.pages; extents = first_extents n.pages }
+
+abbrev pub journal_view : ℕ → Journal
+journal_view epoch = record { epoch = epoch; decision = None }
 
 abbrev pub part_of : DeviceContent → DevicePart
-part_of d = record { site = d.site; clusters = d.clusters; next_space = d.next_space; epoch = d.epoch; named = option_map named_view d.named }
+part_of d = record { site = d.site; clusters = d.clusters; next_space = d.next_space; journal = Some (journal_view d.epoch); entries = table_with (option_map named_view d.named) }
 
 -- an image holds this content, and its journal and its table are the ones of these selectors
 pub record HasContent (d : DeviceContent) (image : List ℕ) : Type 0 where
   pub size : 131072 ≤ length image
   pub tests : hold_all (device_tests 0 image) ≡ true
-  pub part : device_part image ≡ part_of d
+  pub part : device_part 0 image ≡ part_of d
   pub journal : get_or image 513 0 ≡ d.journal
   pub table : get_or image 512 0 ≡ d.table
 

@@ -1,6 +1,6 @@
 -- What a device holds while a space is entered into its table.
 use Rattle.std.specs.Prelude.{◌+◌, ℕ, List, Some}
-use Rattle.tq_model.specs.Reading.{other, table_a, table_b}
+use Rattle.tq_model.specs.DeviceForm.{other, table_a, table_b}
 use Rattle.tq_device.specs.Content.{HasContent}
 use Rattle.tq_device.specs.Parts.{HasTable}
 use Rattle.tq_device.specs.declared.content.DeviceContent.{DeviceContent}

@@ -1,5 +1,6 @@
 pub mod Content
 pub mod Entered
+pub mod FirstEntry
 pub mod Judged
 pub mod Made
 pub mod Parts

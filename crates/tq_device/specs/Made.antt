@@ -1,6 +1,6 @@
 -- What a device holds while it is made.
 use Rattle.std.specs.Prelude.{◌≡◌, ◌<◌, ◌+◌, ◌-◌, ◌*◌, ℕ, List, length, get_or, None, nat_lt, if◌then◌else◌}
-use Rattle.tq_model.specs.Reading.{table_a, journal_a}
+use Rattle.tq_model.specs.DeviceForm.{table_a, journal_a}
 use Rattle.tq_device.specs.Parts.{HasHeader, IsTable, HasJournal}
 
 -- shorter than a device that is not blank

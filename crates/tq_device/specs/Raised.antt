@@ -1,6 +1,6 @@
 -- What a device holds while its epoch is raised.
 use Rattle.std.specs.Prelude.{◌+◌, ℕ, List}
-use Rattle.tq_model.specs.Reading.{other, journal_a, journal_b}
+use Rattle.tq_model.specs.DeviceForm.{other, journal_a, journal_b}
 use Rattle.tq_device.specs.Content.{HasContent}
 use Rattle.tq_device.specs.Parts.{HasJournal}
 use Rattle.tq_device.specs.declared.content.DeviceContent.{DeviceContent}

@@ -1,5 +1,5 @@
 ghost use Rattle.std.specs.Prelude.{◌≡◌};
-ghost use Rattle.tq_model.specs.Reading as reading;
+ghost use Rattle.tq_model.specs.DeviceForm as form;
 
 /// The length from which on a device is not blank.
 pub(crate) const HEADER_BYTES: u64 = 131_072;
@@ -17,14 +17,14 @@ pub(crate) const OPEN_GATE: u8 = 0x4F;
 
 /// The area that an even selector chooses, or an odd one.
 pub(crate) fn chosen(selector: u8, a: u64, b: u64) -> u64
-    ensures { result ≡ reading.chosen selector a b }
+    ensures { result ≡ form.chosen selector a b }
 {
     if selector % 2 == 0 { a } else { b }
 }
 
 /// The area that this selector does not choose.
 pub(crate) fn other(selector: u8, a: u64, b: u64) -> u64
-    ensures { result ≡ reading.other selector a b }
+    ensures { result ≡ form.other selector a b }
 {
     if selector % 2 == 0 { b } else { a }
 }

@@ -1,5 +1,7 @@
-//! Device 0 outside its space's own pages: its creation, its reading, its epoch, its length, and
-//! the entry of its first space.
+//! Device 0 outside its space's own pages: header, device table, site journal and length.
+//!
+//! The layer above uses `DeviceContent`, what `load` finds, and the changes `create`, `raise_epoch`,
+//! `grow` and `enter`, each with a clause on every picture of its call.
 #![tactic(auto)]
 
 mod bytes;

@@ -1,5 +1,8 @@
-//! Numbers and runs of bytes at a place in a slice of bytes. Numbers are big-endian. No call takes
-//! memory.
+//! Numbers and runs of bytes at a place in a slice of bytes, big-endian, and what the bytes of a gated
+//! log spell. No call takes memory.
+//!
+//! The layer above uses `get_*`, `put_*` and `Short`, and the definitions `specs/Places` and
+//! `specs/GatedLog` with their lemmas.
 #![tactic(auto)]
 
 mod get;

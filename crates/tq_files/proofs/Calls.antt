@@ -2,13 +2,14 @@
 use Rattle.std.proofs.Common.{◌≡◌, ◌≤◌, ℕ, List, length, Result, Ok, Err, IfOk, OnOk, OnErr, refl, subst, ap, inr, arith}
 use Rattle.std.specs.Counts.{IsPrefixLen}
 use Rattle.tq_host.specs.declared.host.Failed.{Failed}
-use Rattle.tq_host.specs.Calls.{IsDeviceCall, IsStreamCall, Takes, Gives, next}
+use Rattle.tq_host.specs.Calls.{IsDeviceCall, IsStreamCall, Takes, Gives, next_count}
 use Rattle.tq_files.specs.declared.tally.Tally.{Tally}
-use Rattle.tq_files.specs.declared.tally.Part.TheVariants.{Devices, Input, Output}
+use Rattle.tq_files.specs.declared.part.Part.TheVariants.{Device, Input, Output}
 use Rattle.tq_files.specs.Told.{nothing, file_view, ticked, failed, NoneFalls}
 
 module _ {T : Type 0} (old new : Tally) (grown : NoneFalls old new) where
-  pub device_call : (r : Result T Failed) → OnOk r (new ≡ ticked old) → OnErr r (new ≡ failed Devices old) → IsDeviceCall r (file_view old) (file_view new)
+  -- the number of the device makes no difference
+  pub device_call : (r : Result T Failed) → OnOk r (new ≡ ticked old) → OnErr r (new ≡ failed (Device 0) old) → IsDeviceCall r (file_view old) (file_view new)
   device_call (Ok x) ok err = record {
     clock = record { later = grown.clock; ok = ap (λ (t : Tally). t.clock) ok; failed = tt };
     cause = record { later = grown.device; ok = ap (λ (t : Tally). t.device) ok; failed = tt };
@@ -24,17 +25,17 @@ module _ {T : Type 0} (old new : Tally) (grown : NoneFalls old new) where
     keeps = λ t p le left. left;
   }
 
-  stream_call : (r : Result T Failed) → OnOk r (new ≡ ticked old) → OnErr r ((new.clock ≡ next old.clock) × (new.device ≡ old.device)) → IsStreamCall r (file_view old) (file_view new)
+  stream_call : (r : Result T Failed) → OnOk r (new ≡ ticked old) → OnErr r ((new.clock ≡ next_count old.clock) × (new.device ≡ old.device)) → IsStreamCall r (file_view old) (file_view new)
   stream_call (Ok x) ok err = record {
     clock = record { later = grown.clock; ok = ap (λ (t : Tally). t.clock) ok; failed = tt };
     faults = ap (λ (t : Tally). t.device) ok;
-    still = record { reads = λ d. refl; may_leave = λ d c may. may };
+    still = record { reads = λ d. refl; attached = refl; may_leave = λ d c may. may };
     keeps = λ t p le left. left;
   }
   stream_call (Err x) ok err = record {
     clock = record { later = grown.clock; ok = tt; failed = inr err.0 };
     faults = err.1;
-    still = record { reads = λ d. refl; may_leave = λ d c may. may };
+    still = record { reads = λ d. refl; attached = refl; may_leave = λ d c may. may };
     keeps = λ t p le left. left;
   }
 

@@ -1,16 +1,8 @@
-ghost use Rattle.std.specs.Prelude.{◌≡◌, Result, IfOk, OnOk, OnErr, Ok};
+//! The clock and the counts of failed calls.
+ghost use Rattle.std.specs.Prelude.{◌≡◌};
 ghost use Rattle.tq_files.specs.Told.{fresh, ticked, failed, NoneFalls};
 
-use std::io;
-use tq_host::Failed;
-
-/// The part of the outside that a call belongs to.
-#[derive(Clone, Copy, Debug, PartialEq, Eq)]
-pub enum Part {
-    Devices,
-    Input,
-    Output,
-}
+use crate::part::Part;
 
 /// The clock, and how many calls on each part failed. Each is at most 2^64 - 1.
 #[derive(Clone, Copy, Debug, PartialEq, Eq)]
@@ -34,42 +26,24 @@ impl Tally {
         }
     }
 
-    // One more call on this part failed.
-    fn raise(&mut self, part: Part)
-        ensures failed { self.new ≡ failed part self.old }
-        ensures grown { NoneFalls self.old self.new }
-    {
-        self.tick();
-        match part {
-            Part::Devices => self.device = self.device.saturating_add(1),
-            Part::Input => self.input = self.input.saturating_add(1),
-            Part::Output => self.output = self.output.saturating_add(1),
-        }
-    }
-
-    fn tick(&mut self)
+    /// One more call was made.
+    pub fn tick(&mut self)
         ensures ticked { self.new ≡ ticked self.old }
         ensures grown { NoneFalls self.old self.new }
     {
         self.clock = self.clock.saturating_add(1);
     }
 
-    /// Counts a call on this part that came to this.
-    pub fn count<T: Drop>(&mut self, part: Part, outcome: io::Result<T>) -> Result<T, Failed>
-        ensures value { IfOk result (λ x. outcome ≡ Ok x) }
-        ensures ok { OnOk result (self.new ≡ ticked self.old) }
-        ensures err { OnErr result (self.new ≡ failed part self.old) }
+    /// One more call was made, one on this part, and failed.
+    pub fn raise(&mut self, part: Part)
+        ensures failed { self.new ≡ failed part self.old }
         ensures grown { NoneFalls self.old self.new }
     {
-        match outcome {
-            Ok(value) => {
-                self.tick();
-                Ok(value)
-            }
-            Err(_) => {
-                self.raise(part);
-                Err(Failed)
-            }
+        self.tick();
+        match part {
+            Part::Device(_) => self.device = self.device.saturating_add(1),
+            Part::Input => self.input = self.input.saturating_add(1),
+            Part::Output => self.output = self.output.saturating_add(1),
         }
     }
 }

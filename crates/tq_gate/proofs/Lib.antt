@@ -1,4 +1,5 @@
 pub mod Stretches
+pub mod FrameLemmas
 pub mod Readings
 pub mod Contents
 pub mod Staging

@@ -8,7 +8,7 @@ use Rattle.tq_host.specs.Calls.{HasBytesAt, IsTorn, IsWritten, IsDeviceCall, IsS
 use Rattle.tq_host.specs.Within.{Within}
 use Rattle.tq_host.proofs.Steps.{IsSteps}
 use Rattle.tq_host.proofs.Within.{starts, still, changes, weaker, in_a_row}
-use Rattle.tq_host.proofs.Bytes.{torn_within, stands_still, same_but_steps}
+use Rattle.tq_host.proofs.Bytes.{torn_within, stands_first, stands_second, same_but_steps}
 use Rattle.tq_field.specs.Digits.{number_of, digits}
 use Rattle.tq_field.specs.Places.{run_at}
 use Rattle.tq_field.proofs.Numbers.{length-digits, number_of-digits}
@@ -17,8 +17,10 @@ use Rattle.tq_gate.specs.declared.log.GateLog.{GateLog}
 use Rattle.tq_gate.specs.Layout.{log_length, layout_end, log_address, IsPlaced}
 use Rattle.tq_gate.specs.Reading.{Content, content, log_in, IsRecord}
 use Rattle.tq_field.specs.GatedLog.{end_of}
+use Rattle.tq_gate.specs.Frame.{behind_gate}
 use Rattle.tq_gate.specs.Log.{IsOpen, IsLog, AreLog, HaveLog, added, IsSameButIn, IsSameButLog, IsStagedIn, IsStaged, AreStagedOver, IsKeptLog, IsOpening, IsOldOrNew}
 use Rattle.tq_gate.proofs.Stretches.{run_at-is}
+use Rattle.tq_gate.proofs.FrameLemmas.{length-behind_gate}
 use Rattle.tq_gate.proofs.Readings.{end_of-push, records_push}
 use Rattle.tq_gate.proofs.Contents.{whole_open, open_whole, of_whole, whole_but, log_byte, log_long, log_within, log_same, records_kept}
 
@@ -42,29 +44,26 @@ module _ (layout : Layout) (area : ℕ) (placed : IsPlaced layout area) where
       (records_kept layout area placed k.payloads a b whole.records (λ i lt. before i (omega arith)))
       (λ open_gate. whole.shut (sym (log_same layout area placed (end_of k.payloads + 1) a b (omega arith) before (end_of k.payloads) (omega arith)) ∙ open_gate)))
 
-  -- the three writes of a payload
-  pub staged : (end : ℕ) (k : Content) (x bytes a b c d : List ℕ) (u v w : ℕ) → end + 6 + length x ≤ log_length layout → IsOpen layout area end k a
-      → bytes ≡ digits 4 (length x) → u ≡ log_address layout area (end + 1) → v ≡ log_address layout area (end + 5) → w ≡ log_address layout area (end + 5 + length x)
-      → IsWritten u bytes a b → IsWritten v x b c → IsWritten w (0 ∷ []) c d → IsStagedIn layout area end k x d
-  staged end k x bytes a b c d u v w room is spelt at_u at_v at_w first second third =
+  -- the write of a payload
+  pub staged : (end : ℕ) (k : Content) (x bytes a b : List ℕ) (w : ℕ) → end + 6 + length x ≤ log_length layout → IsOpen layout area end k a
+      → bytes ≡ behind_gate x → w ≡ log_address layout area (end + 1) → IsWritten w bytes a b → IsStagedIn layout area end k x b
+  staged end k x bytes a b w room is spelt at_w written =
+      let d = digits 4 (length x) in
+      let four = length-digits 4 (length x) in
+      let size : length bytes ≡ length x + 5 = ap length spelt ∙ length-behind_gate x in
       let within = log_within layout area placed in
-      let four : length bytes ≡ 4 = ap length spelt ∙ length-digits 4 (length x) in
       let long = (whole_open layout area end k a is).long in
-      let torn_b = torn_of u bytes a b first (omega arith) in
-      let is_b = behind end k u (length bytes) a b is (omega arith) (omega arith) torn_b in
-      let torn_c = torn_of v x b c second (omega (arith, torn_b.no_shorter)) in
-      let is_c = behind end k v (length x) b c is_b (omega arith) (omega arith) torn_c in
-      let torn_d = torn_of w (0 ∷ []) c d third (omega (arith, torn_b.no_shorter, torn_c.no_shorter)) in
-      let is_d = behind end k w 1 c d is_c (omega arith) (omega arith) torn_d in
-      let number_d : HasBytesAt u bytes d = stands_still u w 1 bytes c d (stands_still u v (length x) bytes b c first.stands second.outside (inl (omega arith))) third.outside (inl (omega arith)) in
-      let run_d : HasBytesAt v x d = stands_still v w 1 x c d second.stands third.outside (inl (omega arith)) in
-      let zero_at : w + 0 ≡ w = omega arith in
+      let stand : HasBytesAt w (behind_gate x) b = subst (λ (l : List ℕ). HasBytesAt w l b) spelt written.stands in
+      let behind_number : HasBytesAt (w + length d) (x ++ 0 ∷ []) b = stands_second w d (x ++ 0 ∷ []) b stand in
+      let behind_run : HasBytesAt (w + length d + length x) (0 ∷ []) b = stands_second (w + length d) x (0 ∷ []) b behind_number in
+      let at_run : w + length d ≡ log_address layout area (end + 5) = omega (arith, four, at_w) in
+      let at_gate : log_address layout area (end + 5 + length x) ≡ w + length d + length x + 0 = omega (arith, four, at_w) in
       record {
         fits = room;
-        is = is_d;
-        number = subst (λ n. HasBytesAt n (digits 4 (length x)) d) at_u (subst (λ (l : List ℕ). HasBytesAt u l d) spelt number_d);
-        run = subst (λ n. HasBytesAt n x d) at_v run_d;
-        shut = sym (ap (λ n. get_or d n 0) (zero_at ∙ at_w)) ∙ third.stands 0 (omega arith);
+        is = behind end k w (length bytes) a b is (omega arith) (omega (arith, size)) (torn_of w bytes a b written (omega (arith, size)));
+        number = subst (λ n. HasBytesAt n d b) at_w (stands_first w d (x ++ 0 ∷ []) b stand);
+        run = subst (λ n. HasBytesAt n x b) at_run (stands_first (w + length d) x (0 ∷ []) b behind_number);
+        shut = ap (λ n. get_or b n 0) at_gate ∙ behind_run 0 (omega arith);
       }
 
   -- a payload that is staged, in the log of an image whose gate is open
@@ -160,7 +159,7 @@ module _ (log : GateLog) (old : View) where
   keeps_start has =
       starts log.layout.dev (IsSameButLog log) (steps log) (IsKeptLog log old) old (λ c may.
       let log_is = has c may in
-      record { was = c; left = may; frame = (steps log).none c; holds = log_is.holds; old = log_is.is; now = log_is.is })
+      record { was = c; left = may; outside = (steps log).none c; holds = log_is.holds; old = log_is.is; now = log_is.is })
 
   kept_torn : (w n : ℕ) (b c : List ℕ) → log_address log.layout log.area (log.end + 1) ≤ w → w + n ≤ log_address log.layout log.area (log_length log.layout) → IsKeptLog log old b → IsTorn w n b c
       → IsSameButLog log b c × IsKeptLog log old c
@@ -170,7 +169,7 @@ module _ (log : GateLog) (old : View) where
         record {
           was = kept.was;
           left = kept.left;
-          frame = (steps log).both kept.was b c kept.frame same;
+          outside = (steps log).both kept.was b c kept.outside same;
           holds = kept.holds;
           old = kept.old;
           now = behind log.layout log.area log.placed log.end kept.holds w n b c kept.now from to torn;
@@ -189,7 +188,7 @@ module _ (log : GateLog) (old : View) where
   pub keeps_old : (x : List ℕ) (mid : View) → Keeps mid → Within log.layout.dev (IsSameButLog log) (IsOldOrNew log old x) old mid
   keeps_old x mid first =
       weaker log.layout.dev (IsSameButLog log) (steps log) (IsKeptLog log old) (IsOldOrNew log old x) old mid
-      (λ b c may kept. inl (record { was = kept.was; left = kept.left; frame = kept.frame; reads = kept.now.reads ∙ sym kept.old.reads })) first
+      (λ b c may kept. inl (record { was = kept.was; left = kept.left; outside = kept.outside; reads = kept.now.reads ∙ sym kept.old.reads })) first
 
   -- what a host reads at the start has content, where it tells what is left
   read_has : {tells : Told} → IsLawful tells old → HaveLog log old → tells.stops
@@ -221,8 +220,8 @@ module _ (log : GateLog) (old : View) where
       let read = old.reads log.layout.dev in
       let reads = (read_has lawful_old has stops).0 in
       ⊎_elim
-      (λ kept. inl (record { was = read; left = lawful_old.reads_an_image stops log.layout.dev; frame = opening.0; reads = kept ∙ sym reads }))
-      (λ more. inr (record { frame = opening.0; reads = more ∙ sym (ap (option_map (λ k. added k x)) reads) }))
+      (λ kept. inl (record { was = read; left = lawful_old.reads_an_image stops log.layout.dev; outside = opening.0; reads = kept ∙ sym reads }))
+      (λ more. inr (record { outside = opening.0; reads = more ∙ sym (ap (option_map (λ k. added k x)) reads) }))
       opening.1
 
   -- both pieces

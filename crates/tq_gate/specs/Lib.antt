@@ -1,5 +1,6 @@
 pub mod Layout
 pub mod Reading
+pub mod Frame
 pub mod Log
 pub mod Loading
 pub mod Scanning

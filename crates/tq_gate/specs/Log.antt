@@ -81,12 +81,12 @@ HaveLog log v = (image : List ℕ) → v.may_leave log.layout.dev image → HasL
 pub record IsAsLeft (log : GateLog) (before : View) (image : List ℕ) : Type 0 where
   pub was : List ℕ
   pub left : before.may_leave log.layout.dev was
-  pub frame : IsSameButLog log was image
+  pub outside : IsSameButLog log was image
   pub reads : content log.layout image ≡ content log.layout was
 
 -- The image has the content of this one with a payload more, and differs from it in the log alone.
 pub record HasAdded (log : GateLog) (payload read image : List ℕ) : Type 0 where
-  pub frame : IsSameButLog log read image
+  pub outside : IsSameButLog log read image
   pub reads : content log.layout image ≡ option_map (λ k. added k payload) (content log.layout read)
 
 -- An old content, or that of what was read with the payload more.
@@ -101,7 +101,7 @@ IsOpening log k payload read image = IsSameButLog log read image × ((content lo
 pub record IsKeptLog (log : GateLog) (before : View) (image : List ℕ) : Type 0 where
   pub was : List ℕ
   pub left : before.may_leave log.layout.dev was
-  pub frame : IsSameButLog log was image
+  pub outside : IsSameButLog log was image
   pub holds : Content
   pub old : IsLog log holds was
   pub now : IsLog log holds image

@@ -24,6 +24,7 @@ impl GateLog {
     ghost use Rattle.tq_host.specs.Within.{Within, KeepsRest};
     ghost use Rattle.tq_gate.specs.Layout.{layout_end};
     ghost use Rattle.tq_gate.specs.Reading.{Content};
+    ghost use Rattle.tq_gate.specs.Frame.{IsFrame, payload_in};
     ghost use Rattle.tq_gate.specs.Log.{IsLog, AreLog, HaveLog, added, layout_of, free_in, FitsIn, IsSameLog, IsSameButLog, IsOldOrNew};
 
     /// The bytes that are left: the log's length less those of its payloads, each with its gate
@@ -52,33 +53,38 @@ impl GateLog {
             .address(self.area + self.layout.base_length() + at)
     }
 
-    /// Adds a payload that fits. A stop at any moment leaves the old payloads or the new ones.
-    /// Takes no memory. After `Device` the log is to be loaded again.
-    pub fn append<H: Host>(&mut self, host: &mut H, payload: &[u8]) -> Result<(), Device>
-        requires fits { FitsIn self.old (length payload.now) }
+    /// Adds a payload that fits: two writes, each with a sync behind it. The payload stands in a
+    /// frame, behind `BEFORE_PAYLOAD` free bytes and before one more, which are filled in here. A
+    /// stop at any moment leaves the old payloads or the new ones. Takes no memory. After `Device`
+    /// the log is to be loaded again.
+    pub fn append<H: Host>(&mut self, host: &mut H, frame: &mut [u8]) -> Result<(), Device>
+        requires frame { IsFrame frame.old }
+        requires fits { FitsIn self.old (length (payload_in frame.old)) }
         requires reach { H.tells.reads → layout_end (layout_of self.old) ≤ length ((H.view host.old).reads (layout_of self.old).dev) }
 
         // In each picture the content is that of one image of the start, or that of what was read
         // at the start with the payload more; outside the log all is as it was there.
         ensures stop { HaveLog self.old (H.view host.old)
-            → Within (layout_of self.old).dev (IsSameButLog self.old) (IsOldOrNew self.old (H.view host.old) payload.now) (H.view host.old) (H.view host.new) }
+            → Within (layout_of self.old).dev (IsSameButLog self.old) (IsOldOrNew self.old (H.view host.old) (payload_in frame.old)) (H.view host.old) (H.view host.new) }
 
         // What is read, and each image, is the new content.
         ensures added { OnOk result (H.tells.reads → (k : Content) → IsLog self.old k ((H.view host.old).reads (layout_of self.old).dev)
-            → IsLog self.new (added k payload.now) ((H.view host.new).reads (layout_of self.old).dev)) }
-        ensures images { OnOk result ((k : Content) → AreLog self.old k (H.view host.old) → AreLog self.new (added k payload.now) (H.view host.new)) }
-        ensures frame { OnOk result (H.tells.reads → IsSameButLog self.old ((H.view host.old).reads (layout_of self.old).dev) ((H.view host.new).reads (layout_of self.old).dev)) }
+            → IsLog self.new (added k (payload_in frame.old)) ((H.view host.new).reads (layout_of self.old).dev)) }
+        ensures images { OnOk result ((k : Content) → AreLog self.old k (H.view host.old)
+            → AreLog self.new (added k (payload_in frame.old)) (H.view host.new)) }
+        ensures outside { OnOk result (H.tells.reads
+            → IsSameButLog self.old ((H.view host.old).reads (layout_of self.old).dev) ((H.view host.new).reads (layout_of self.old).dev)) }
         ensures settled { OnOk result (IsSettled (layout_of self.old).dev (H.view host.new)) }
 
         ensures layout { layout_of self.new ≡ layout_of self.old }
-        ensures free { OnOk result (free_in self.new + (5 + length payload.now) ≡ free_in self.old) }
+        ensures free { OnOk result (free_in self.new + (5 + length (payload_in frame.old)) ≡ free_in self.old) }
         ensures same { OnErr result (IsSameLog self.old self.new) }
         ensures rest { KeepsRest (layout_of self.old).dev (H.view host.old) (H.view host.new) }
         ensures cause { HasCause (H.view host.old).faults (H.view host.new).faults result }
     {
-        stage(host, self, payload)?;
+        stage(host, self, frame)?;
         open_gate(host, self)?;
-        self.end += 5 + payload.len() as u64;
+        self.end += frame.len() as u64 - 1;
         Ok(())
     }
 }

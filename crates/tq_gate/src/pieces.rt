@@ -2,52 +2,39 @@ ghost use Rattle.std.specs.Prelude.{◌≡◌, ◌+◌, ◌≤◌, List, ℕ, le
 ghost use Rattle.tq_host.specs.View.{IsSettled};
 ghost use Rattle.tq_host.specs.Calls.{HasCause};
 ghost use Rattle.tq_host.specs.Within.{Within, KeepsRest};
-ghost use Rattle.tq_field.specs.Digits.{digits};
+ghost use Rattle.tq_gate.specs.Frame.{IsFrame, payload_in};
 ghost use Rattle.tq_gate.specs.Layout.{layout_end};
 ghost use Rattle.tq_gate.specs.Reading.{Content};
 ghost use Rattle.tq_gate.specs.Log.{IsLog, HaveLog, added, FitsIn, IsSameButLog, IsOpen, IsStaged, AreStagedOver, IsKeptLog, IsOpening};
 
 use crate::GateLog;
-use tq_field::put_u32;
+use crate::frame::close_frame;
 use tq_host::{Failed, Host};
 
 /// The byte of an open gate.
 pub(crate) const OPEN_GATE: u8 = 0x4F;
 
-const CLOSED_GATE: u8 = 0;
-
-// The 4 bytes of a number.
-fn digits_of(n: u32) -> [u8; 4]
-    ensures { result ≡ digits 4 n }
-{
-    let mut bytes = [0; 4];
-    match put_u32(&mut bytes, 0, n) {
-        Ok(()) => bytes,
-        Err(_) => unreachable!(),
-    }
-}
-
 // The first piece of adding a payload: behind the log's closed gate its length, the payload and a
-// closed gate, and a sync.
-pub(crate) fn stage<H: Host>(host: &mut H, log: &GateLog, payload: &[u8]) -> Result<(), Failed>
-    requires fits { FitsIn log.now (length payload.now) }
+// closed gate, in one write, and a sync.
+pub(crate) fn stage<H: Host>(host: &mut H, log: &GateLog, frame: &mut [u8]) -> Result<(), Failed>
+    requires frame { IsFrame frame.old }
+    requires fits { FitsIn log.now (length (payload_in frame.old)) }
     requires reach { H.tells.reads → layout_end log.now.layout ≤ length ((H.view host.old).reads log.now.layout.dev) }
 
     // In each picture the content is an old one.
     ensures stop { HaveLog log.now (H.view host.old)
         → Within log.now.layout.dev (IsSameButLog log.now) (IsKeptLog log.now (H.view host.old)) (H.view host.old) (H.view host.new) }
     ensures staged { OnOk result (H.tells.reads → (k : Content) → IsLog log.now k ((H.view host.old).reads log.now.layout.dev)
-        → IsStaged log.now k payload.now ((H.view host.new).reads log.now.layout.dev)) }
-    ensures frame { OnOk result (H.tells.reads → IsSameButLog log.now ((H.view host.old).reads log.now.layout.dev) ((H.view host.new).reads log.now.layout.dev)) }
+        → IsStaged log.now k (payload_in frame.old) ((H.view host.new).reads log.now.layout.dev)) }
+    ensures outside { OnOk result (H.tells.reads
+        → IsSameButLog log.now ((H.view host.old).reads log.now.layout.dev) ((H.view host.new).reads log.now.layout.dev)) }
     ensures settled { OnOk result (IsSettled log.now.layout.dev (H.view host.new)) }
     ensures rest { KeepsRest log.now.layout.dev (H.view host.old) (H.view host.new) }
     ensures cause { HasCause (H.view host.old).faults (H.view host.new).faults result }
 {
     let dev = log.layout.dev;
-    let length = payload.len() as u64;
-    host.write_at(dev, log.address(log.end + 1), &digits_of(length as u32))?;
-    host.write_at(dev, log.address(log.end + 5), payload)?;
-    host.write_at(dev, log.address(log.end + 5 + length), &[CLOSED_GATE])?;
+    close_frame(frame);
+    host.write_at(dev, log.address(log.end + 1), &frame[1..])?;
     host.sync(dev)?;
     Ok(())
 }
@@ -62,7 +49,8 @@ pub(crate) fn open_gate<H: Host>(host: &mut H, log: &GateLog) -> Result<(), Fail
         → Within log.now.layout.dev (IsSameButLog log.now) (IsOpening log.now k payload read) (H.view host.old) (H.view host.new) }
     ensures opened { OnOk result (H.tells.reads → (k : Content) → (payload : List ℕ) → IsStaged log.now k payload ((H.view host.old).reads log.now.layout.dev)
         → IsOpen log.now.layout log.now.area (log.now.end + (5 + length payload)) (added k payload) ((H.view host.new).reads log.now.layout.dev)) }
-    ensures frame { OnOk result (H.tells.reads → IsSameButLog log.now ((H.view host.old).reads log.now.layout.dev) ((H.view host.new).reads log.now.layout.dev)) }
+    ensures outside { OnOk result (H.tells.reads
+        → IsSameButLog log.now ((H.view host.old).reads log.now.layout.dev) ((H.view host.new).reads log.now.layout.dev)) }
     ensures settled { OnOk result (IsSettled log.now.layout.dev (H.view host.new)) }
     ensures rest { KeepsRest log.now.layout.dev (H.view host.old) (H.view host.new) }
     ensures cause { HasCause (H.view host.old).faults (H.view host.new).faults result }

@@ -7,13 +7,13 @@ use Rattle.std.specs.declared.alloc.Global.{Global}
 use Rattle.tq_host.specs.declared.call.Call.{Call}
 use Rattle.tq_host.specs.View.{Picture}
 use Rattle.tq_host.specs.Disk.{Disk, IsImage}
-use Rattle.tq_host.specs.Events.{Event, load, write, lost_write, resize, lost_resize, sync, take_some, give_all, pass, event_of, events_of, State, blank, put, step, replay, IsShot, IsDuring, LeftSince, IsFine, Shows, LeadsTo, LeavesAll}
+use Rattle.tq_host.specs.Events.{Event, load, write, lost_write, resize, lost_resize, sync, attach, take_some, give_all, pass, event_of, events_of, State, blank, put, step, replay, IsShot, IsDuring, LeftSince, IsFine, Shows, LeadsTo, LeavesAll}
 
-pub put_own : (dev : ℕ) (disk : Disk) (disks : ℕ → Disk) → put dev disk disks dev ≡ disk
-put_own dev disk disks = grind (arith, nat_tests)
+pub put_own : {A : Type 0} (dev : ℕ) (one : A) (all : ℕ → A) → put dev one all dev ≡ one
+put_own dev one all = grind (arith, nat_tests)
 
-pub put_other : (dev : ℕ) (disk : Disk) (disks : ℕ → Disk) (d : ℕ) → d ≢ dev → put dev disk disks d ≡ disks d
-put_other dev disk disks d ne = grind (arith, nat_tests)
+pub put_other : {A : Type 0} (dev : ℕ) (one : A) (all : ℕ → A) (d : ℕ) → d ≢ dev → put dev one all d ≡ all d
+put_other dev one all d ne = grind (arith, nat_tests)
 
 pub replay_push : (events : List Event) (s : State) (event : Event) → replay s (events ++ event ∷ []) ≡ step event (replay s events)
 replay_push [] s event = refl
@@ -63,7 +63,8 @@ within_more (resize dev n) s p shot = shot
 within_more (lost_resize dev n) s p shot = shot
 within_more (sync dev) s p shot = shot
 within_more (take_some n) s p shot = shot
-within_more (give_all bytes faults) s p shot = record { images = shot.images; count = 0; output = shot.output ∙ sym (append-nil s.output) }
+within_more (attach dev path) s p shot = shot
+within_more (give_all bytes clock faults) s p shot = record { images = shot.images; count = 0; output = shot.output ∙ sym (append-nil s.output) }
 within_more (pass kind) s p shot = shot
 
 keeps_more : (events : List Event) (s : State) (event : Event) (t : ℕ) (p : Picture) → LeftSince s t events p → LeftSince s t (events ++ event ∷ []) p

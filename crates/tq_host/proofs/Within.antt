@@ -2,7 +2,7 @@
 use Rattle.std.proofs.Common.{◌≡◌, ◌≢◌, inl, inr, ⊎_elim, ℕ, List, Result, refl, sym, ◌∙◌, ap, arith}
 use Rattle.tq_host.specs.declared.host.Failed.{Failed}
 use Rattle.tq_host.specs.View.{Told, View, Streams, IsLawful, IsSettled}
-use Rattle.tq_host.specs.Calls.{IsDeviceCall, IsStill, Changes, Syncs}
+use Rattle.tq_host.specs.Calls.{IsDeviceCall, IsStill, Attaches, Changes, Syncs}
 use Rattle.tq_host.specs.Within.{Came, Within}
 use Rattle.tq_host.proofs.Steps.{IsSteps}
 
@@ -66,6 +66,12 @@ module _ (dev : ℕ) (S : List ℕ → List ℕ → Type 0) (steps : IsSteps S) 
   pub still : (Q : List ℕ → Type 0) (start mid new : View) {T : Type 0} (r : Result T Failed) → Within dev S Q start mid → IsDeviceCall r mid new → IsStill mid new
       → Within dev S Q start new
   still Q start mid new r so_far call same =
+      goes_on Q start mid new r so_far call (λ c may. so_far.own c (same.may_leave dev c may)) (λ d c ne may. same.may_leave d c may) (λ d ne. same.reads d)
+
+  -- a device that is attached
+  pub attaches : (Q : List ℕ → Type 0) (start mid new : View) {tells : Told} {d : ℕ} {path : List ℕ} {T : Type 0} (r : Result T Failed) → Within dev S Q start mid → IsDeviceCall r mid new → Attaches tells d path r mid new
+      → Within dev S Q start new
+  attaches Q start mid new r so_far call same =
       goes_on Q start mid new r so_far call (λ c may. so_far.own c (same.may_leave dev c may)) (λ d c ne may. same.may_leave d c may) (λ d ne. same.reads d)
 
   -- a sync that succeeds: the pictures have what they had, and now each image is what is read

@@ -32,6 +32,7 @@ view_of account = record {
     output_faults = account.counts.output;
   };
   reads = λ d. ((replay blank account.events).disks d).seen;
+  attached = (replay blank account.events).attached;
   may_leave = λ d c. IsImage ((replay blank account.events).disks d).pending c;
   left_since = λ t p. LeftSince blank t account.events p;
 }

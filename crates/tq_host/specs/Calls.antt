@@ -1,14 +1,14 @@
 -- What the calls of a host do to what it tells.
-use Rattle.std.specs.Prelude.{◌≡◌, ◌≢◌, ◌⊎◌, ◌<◌, ◌≤◌, ℕ, ◌+◌, min, max, List, [], ◌∷◌, ◌++◌, length, get_or, take, drop, replicate, Result, IfOk, OnOk, OnErr}
+use Rattle.std.specs.Prelude.{◌≡◌, ◌≢◌, ◌⊎◌, ◌<◌, ◌≤◌, ℕ, ◌+◌, min, max, List, [], ◌∷◌, ◌++◌, length, get_or, take, drop, replicate, Result, IfOk, OnOk, OnErr, Some}
 use Rattle.tq_host.specs.declared.host.Failed.{Failed}
-use Rattle.tq_host.specs.View.{Told, View, Streams, Picture, AreNow, IsNow, last}
+use Rattle.tq_host.specs.View.{Told, View, Streams, Picture, AreNow, IsNow, last_count, stamp_now}
 
-abbrev pub next : ℕ → ℕ
-next n = min (n + 1) last
+abbrev pub next_count : ℕ → ℕ
+next_count n = min (n + 1) last_count
 
 -- a count rose, or stood at its last value where a call failed
 abbrev pub Rose : ℕ → ℕ → Type 0
-Rose before now = next before ≤ now
+Rose before now = next_count before ≤ now
 
 -- Bytes on a device
 
@@ -65,8 +65,8 @@ pub record HasCauseOf (failed : Type 0) (before now : ℕ) : Type 0 where
 -- the clock goes on by one, or a call that failed left it
 pub record Ticks {T E : Type 0} (before now : ℕ) (result : Result T E) : Type 0 where
   pub later : before ≤ now
-  pub ok : OnOk result (now ≡ next before)
-  pub failed : OnErr result ((now ≡ before) ⊎ (now ≡ next before))
+  pub ok : OnOk result (now ≡ next_count before)
+  pub failed : OnErr result ((now ≡ before) ⊎ (now ≡ next_count before))
 
 -- each picture since a moment before the call is one that was known then, or one of this moment
 abbrev pub Elapses : View → View → Type 0
@@ -84,8 +84,17 @@ pub record IsDeviceCall {T : Type 0} (result : Result T Failed) (old new : View)
   pub time : Elapses old new
   pub keeps : Keeps old new
 
--- what the devices read and what a stop may leave is not changed
+-- what the devices read, what a stop may leave and what is attached is not changed
 pub record IsStill (old new : View) : Type 0 where
+  pub reads : (d : ℕ) → new.reads d ≡ old.reads d
+  pub attached : new.attached ≡ old.attached
+  pub may_leave : (d : ℕ) (c : List ℕ) → new.may_leave d c → old.may_leave d c
+
+-- One device is attached by this path. That is told by the stamps of the output, so where the output is told. One that
+-- failed may have changed what this device is attached by.
+pub record Attaches (tells : Told) (dev : ℕ) (path : List ℕ) {T : Type 0} (result : Result T Failed) (old new : View) : Type 0 where
+  pub own : OnOk result (tells.output → new.attached dev ≡ Some path)
+  pub others : (d : ℕ) → d ≢ dev → new.attached d ≡ old.attached d
   pub reads : (d : ℕ) → new.reads d ≡ old.reads d
   pub may_leave : (d : ℕ) (c : List ℕ) → new.may_leave d c → old.may_leave d c
 
@@ -93,6 +102,7 @@ pub record IsStill (old new : View) : Type 0 where
 pub record Changes (dev : ℕ) (step : List ℕ → List ℕ → Type 0) (old new : View) : Type 0 where
   pub others_read : (d : ℕ) → d ≢ dev → new.reads d ≡ old.reads d
   pub others : (d : ℕ) (c : List ℕ) → d ≢ dev → new.may_leave d c → old.may_leave d c
+  pub attached : new.attached ≡ old.attached
   pub own : (c : List ℕ) → new.may_leave dev c → (b : List ℕ) × old.may_leave dev b × step b c
 
 -- a sync that succeeds: a stop leaves what is read
@@ -134,7 +144,7 @@ pub record Takes (tells : Told) (result : Result ℕ Failed) (into : List ℕ) (
 pub record IsGiven (k : ℕ) (bytes : List ℕ) (old new : View) : Type 0 where
   pub within : k ≤ length bytes
   pub output : new.streams.output ≡ old.streams.output ++ take k bytes
-  pub stamps : new.streams.stamps ≡ old.streams.stamps ++ replicate k (record { faults = old.faults; reads = old.reads })
+  pub stamps : new.streams.stamps ≡ old.streams.stamps ++ replicate k (stamp_now old)
 
 pub record Gives (tells : Told) (result : Result (Unit {0}) Failed) (bytes : List ℕ) (old new : View) : Type 0 where
   pub cause : HasCause old.streams.output_faults new.streams.output_faults result

@@ -1,5 +1,5 @@
 -- What a record of calls leads to.
-use Rattle.std.specs.Prelude.{◌≡◌, ◌≢◌, ◌⊎◌, ◌<◌, ℕ, ◌+◌, zero, suc, List, [], ◌∷◌, ◌++◌, length, get_or, take, replicate, map, if◌then◌else◌, ◌==◌, Vec}
+use Rattle.std.specs.Prelude.{◌≡◌, ◌≢◌, ◌⊎◌, ◌<◌, ℕ, ◌+◌, zero, suc, List, [], ◌∷◌, ◌++◌, length, get_or, take, replicate, map, if◌then◌else◌, ◌==◌, Vec, Option, Some, None}
 use Rattle.std.specs.declared.alloc.Global.{Global}
 use Rattle.tq_host.specs.declared.kind.CallKind.{CallKind}
 use Rattle.tq_host.specs.declared.call.Call.{Call}
@@ -15,8 +15,9 @@ pub data Event : Type 0 where
   resize : ℕ → ℕ → Event  -- a device, its length
   lost_resize : ℕ → ℕ → Event  -- a change of the length that failed
   sync : ℕ → Event
+  attach : ℕ → List ℕ → Event  -- a device, the path
   take_some : ℕ → Event  -- the number of bytes
-  give_all : List ℕ → ℕ → Event  -- the bytes, the device count
+  give_all : List ℕ → ℕ → ℕ → Event  -- the bytes, the clock, the device count
   pass : CallKind → Event  -- a call that changes nothing: it only reads, or it failed
 
 abbrev pub event_of : Call → Event
@@ -27,7 +28,8 @@ event_of (call.Resize dev size) = resize dev size
 event_of (call.LostResize dev size) = lost_resize dev size
 event_of (call.Sync dev) = sync dev
 event_of (call.Take count) = take_some count
-event_of (call.Give bytes faults) = give_all bytes.items faults
+event_of (call.Attach dev path) = attach dev path.items
+event_of (call.Give bytes clock faults) = give_all bytes.items clock faults
 event_of (call.Pass kind) = pass kind
 
 abbrev pub events_of : List Call → List Event
@@ -35,18 +37,19 @@ events_of calls = map event_of calls
 
 pub record State : Type 0 where
   pub disks : ℕ → Disk
+  pub attached : ℕ → Option (List ℕ)
   pub output : List ℕ
   pub stamps : List Stamp
   pub taken : ℕ
   pub takes : List TakeStamp
 
--- eight empty devices, nothing taken and nothing given
+-- eight empty devices, none attached, nothing taken and nothing given
 abbrev pub blank : State
-blank = record { disks = λ d. settled []; output = []; stamps = []; taken = 0; takes = [] }
+blank = record { disks = λ d. settled []; attached = λ d. None; output = []; stamps = []; taken = 0; takes = [] }
 
--- this disk in the place of that device's
-abbrev pub put : ℕ → Disk → (ℕ → Disk) → ℕ → Disk
-put dev disk disks d = if d == dev then disk else disks d
+-- this in the place of what that device has
+abbrev pub put : {A : Type 0} → ℕ → A → (ℕ → A) → ℕ → A
+put dev one all d = if d == dev then one else all d
 
 abbrev pub step : Event → State → State
 step (load dev image) s = record s { disks = put dev (settled image) s.disks }
@@ -56,9 +59,10 @@ step (resize dev n) s = record s { disks = put dev (resized n (s.disks dev)) s.d
 step (lost_resize dev n) s = record s { disks = put dev (tried_resize n (s.disks dev)) s.disks }
 step (sync dev) s = record s { disks = put dev (settled (s.disks dev).seen) s.disks }
 step (take_some n) s = record s { taken = s.taken + n; takes = s.takes ++ (record { taken = s.taken; given = length s.output }) ∷ [] }
-step (give_all bytes faults) s = record s {
+step (attach dev path) s = record s { attached = put dev (Some path) s.attached }
+step (give_all bytes clock faults) s = record s {
   output = s.output ++ bytes;
-  stamps = s.stamps ++ replicate (length bytes) (record { faults = faults; reads = λ d. (s.disks d).seen });
+  stamps = s.stamps ++ replicate (length bytes) (record { clock = clock; faults = faults; reads = λ d. (s.disks d).seen; attached = s.attached });
 }
 step (pass kind) s = s
 
@@ -79,7 +83,7 @@ pub record IsGivingShot (s : State) (bytes : List ℕ) (p : Picture) : Type 0 wh
 
 -- a picture within a call
 abbrev pub IsDuring : Event → State → Picture → Type 0
-IsDuring (give_all bytes faults) s p = IsGivingShot s bytes p
+IsDuring (give_all bytes clock faults) s p = IsGivingShot s bytes p
 IsDuring event s p = IsShot s p
 
 -- a picture since the moment before the t-th of these calls

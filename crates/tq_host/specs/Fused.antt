@@ -8,6 +8,8 @@ use Rattle.tq_host.specs.declared.host.Failed.{Failed}
 use Rattle.tq_host.specs.Counts.{raised}
 use Rattle.tq_host.specs.View.{Told, View, Streams, IsLawful}
 
+-- The sum of two counts may pass the last value of one. No law says where a count ends, only that it rises by a failed
+-- call or stands past its end, and that holds of the sum.
 abbrev pub fused_streams : Streams → Counts → Streams
 fused_streams s failed = record s { input_faults = s.input_faults + failed.input; output_faults = s.output_faults + failed.output }
 
@@ -18,7 +20,9 @@ pub fused_lawful : (tells : Told) (v : View) (failed : Counts) → IsLawful tell
 fused_lawful tells v failed lawful = record {
   reads_an_image = lawful.reads_an_image;
   stops_told = lawful.stops_told;
+  left_told = lawful.left_told;
   reads_told = lawful.reads_told;
+  stops_too = lawful.stops_too;
   only_now = λ p left. let now = lawful.only_now p left in record { images = now.images; output = now.output };
   counts_now = λ t p le now. lawful.counts_now t p le (record { images = now.images; output = now.output });
   goes_on = lawful.goes_on;

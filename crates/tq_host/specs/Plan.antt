@@ -4,7 +4,7 @@ use Rattle.tq_host.specs.declared.kind.CallKind.{CallKind}
 use Rattle.tq_host.specs.declared.plan.Planned.{Planned}
 use Rattle.tq_host.specs.declared.plan.Planned.TheVariants.{Call, OfKind}
 use Rattle.tq_host.specs.declared.plan.Plan.{Plan}
-use Rattle.tq_host.specs.Calls.{next}
+use Rattle.tq_host.specs.Calls.{next_count}
 use Rattle.tq_host.specs.Kinds.{number_of}
 
 -- how many calls of this kind were made
@@ -17,7 +17,7 @@ IsToFail plan kind = Contains plan.planned.items (Call plan.made) ⊎ Contains p
 
 -- a call of this kind was made
 abbrev pub made : CallKind → Plan → Plan
-made kind plan = record plan { made = next plan.made; by_kind = set plan.by_kind (number_of kind) (next (made_of plan kind)) }
+made kind plan = record plan { made = next_count plan.made; by_kind = set plan.by_kind (number_of kind) (next_count (made_of plan kind)) }
 
 -- the same calls were made
 pub record IsMadeSame (old new : Plan) : Type 0 where

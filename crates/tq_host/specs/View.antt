@@ -1,5 +1,5 @@
 -- What a host tells at a moment.
-use Rattle.std.specs.Prelude.{◌≡◌, ◌≤◌, ◌<◌, ℕ, List}
+use Rattle.std.specs.Prelude.{◌≡◌, ◌≤◌, ◌<◌, ℕ, List, Option}
 
 -- The meanings that a host may tell, each by itself.
 pub record Told : Type 1 where
@@ -14,10 +14,13 @@ pub record TellsAll (tells : Told) : Type 0 where
   pub output : tells.output
   pub stops : tells.stops
 
--- The moment at which a byte of the output was given: the device count so far, and what each device read then.
+-- The moment at which a byte of the output was given: the clock before that call, the device count so far, what each
+-- device read then, and the path that it was attached by.
 pub record Stamp : Type 0 where
+  pub clock : ℕ
   pub faults : ℕ
   pub reads : ℕ → List ℕ
+  pub attached : ℕ → Option (List ℕ)
 
 -- A take that answered Ok: the script bytes taken and the output bytes given before it.
 pub record TakeStamp : Type 0 where
@@ -44,12 +47,17 @@ pub record View : Type 1 where
   pub faults : ℕ  -- the device count
   pub streams : Streams
   pub reads : ℕ → List ℕ
+  pub attached : ℕ → Option (List ℕ)  -- the path that each device was attached by
   pub may_leave : ℕ → List ℕ → Type 0  -- the images that a stop now may leave of a device
   pub left_since : ℕ → Picture → Type 0  -- the pictures of a moment from this clock on
 
 -- the last value of a clock or a count
-abbrev pub last : ℕ
-last = 18446744073709551615
+abbrev pub last_count : ℕ
+last_count = 18446744073709551615
+
+-- the stamp of a byte that is given now
+abbrev pub stamp_now : View → Stamp
+stamp_now v = record { clock = v.clock; faults = v.faults; reads = v.reads; attached = v.attached }
 
 -- the images of a picture are of this moment
 abbrev pub AreNow : View → (ℕ → List ℕ) → Type 0
@@ -68,12 +76,15 @@ IsSettled dev v = (c : List ℕ) → v.may_leave dev c → c ≡ v.reads dev
 pub record IsLawful (tells : Told) (v : View) : Type 0 where
   -- what a device reads is one of the images that a stop may leave
   pub reads_an_image : tells.stops → (d : ℕ) → v.may_leave d (v.reads d)
-  -- only a host that tells what a stop may leave has images, and it tells what is read too
+  -- only a host that tells what a stop may leave has images or pictures
   pub stops_told : (d : ℕ) (c : List ℕ) → v.may_leave d c → tells.stops
+  pub left_told : (t : ℕ) (p : Picture) → v.left_since t p → tells.stops
+  -- one that tells what a stop may leave tells what is read, and the other way round
   pub reads_told : tells.stops → tells.reads
+  pub stops_too : tells.reads → tells.stops
   -- since this moment there is no other
   pub only_now : (p : Picture) → v.left_since v.clock p → IsNow v p
   -- a picture of this moment is one since each earlier moment
   pub counts_now : (t : ℕ) (p : Picture) → t ≤ v.clock → IsNow v p → v.left_since t p
   -- where a moment can be told from the next one, the clock has not come to its end
-  pub goes_on : tells.stops → v.clock < last
+  pub goes_on : tells.stops → v.clock < last_count

@@ -2,11 +2,12 @@
 use Rattle.std.specs.Prelude.{◌≡◌, ◌≢◌, ◌⊎◌, ◌≤◌, ℕ, List}
 use Rattle.tq_host.specs.View.{View, Picture}
 
--- a call on one device leaves the rest of the outside
+-- a call on one device leaves the rest of the outside, and the paths that the devices are attached by
 pub record KeepsRest (dev : ℕ) (old new : View) : Type 0 where
   pub later : old.clock ≤ new.clock
   pub streams : new.streams ≡ old.streams
   pub others_read : (d : ℕ) → d ≢ dev → new.reads d ≡ old.reads d
+  pub attached : new.attached ≡ old.attached
 
 -- an image that has Q, and is one from the start of the call but for a step S
 pub record Came (dev : ℕ) (S : List ℕ → List ℕ → Type 0) (Q : List ℕ → Type 0) (start : View) (c : List ℕ) : Type 0 where

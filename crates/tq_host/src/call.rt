@@ -12,10 +12,12 @@ pub enum Call {
     /// A change of the length that failed.
     LostResize(u8, u64),
     Sync(u8),
+    /// A device and the bytes of the path that it was attached by.
+    Attach(u8, Vec<u8>),
     /// The number of bytes taken.
     Take(usize),
-    /// The bytes given, and the device count of that moment.
-    Give(Vec<u8>, u64),
+    /// The bytes given, and the clock and the device count of that moment.
+    Give(Vec<u8>, u64, u64),
     /// A call that changed nothing: it only reads, or it failed.
     Pass(CallKind),
 }

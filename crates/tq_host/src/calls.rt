@@ -3,7 +3,7 @@ ghost use Rattle.tq_host.specs.declared.counts.Part.TheVariants.{Devices, Input,
 ghost use Rattle.tq_host.specs.declared.kind.CallKind.TheVariants as kind;
 ghost use Rattle.tq_host.specs.Counts.{raised, NoneFalls};
 ghost use Rattle.tq_host.specs.Calls.{HasBytesAt};
-ghost use Rattle.tq_host.specs.Events.{write, lost_write, resize, lost_resize, sync, take_some, give_all, pass};
+ghost use Rattle.tq_host.specs.Events.{write, lost_write, resize, lost_resize, sync, attach, take_some, give_all, pass};
 ghost use Rattle.tq_host.specs.Account.{IsRecorded};
 ghost use Rattle.tq_host.specs.Outside.{account_of, state_of};
 
@@ -90,6 +90,20 @@ impl Outside {
         Ok(())
     }
 
+    pub fn attach(&mut self, dev: u8, path: &str, fails: bool) -> Result<(), Failed>
+        ensures recorded { IsRecorded Devices result (λ _. attach dev path.now) (pass kind.Attach) (account_of self.old) (account_of self.new) }
+        ensures planned { IsTrue fails → IsErr result }
+    {
+        if fails {
+            let _kept = self.keep_pass(CallKind::Attach).is_ok();
+            return self.fail(Part::Devices);
+        }
+        if self.keep_attach(dev, path).is_err() {
+            return self.fail(Part::Devices);
+        }
+        Ok(())
+    }
+
     pub fn sync(&mut self, dev: u8, fails: bool) -> Result<(), Failed>
         ensures recorded { IsRecorded Devices result (λ _. sync dev) (pass kind.Sync) (account_of self.old) (account_of self.new) }
         ensures planned { IsTrue fails → IsErr result }
@@ -125,7 +139,8 @@ impl Outside {
     }
 
     pub fn give(&mut self, from: &[u8], fails: bool) -> Result<(), Failed>
-        ensures recorded { IsRecorded Output result (λ _. give_all from.now self.old.counts.device) (pass kind.Give) (account_of self.old) (account_of self.new) }
+        ensures recorded { IsRecorded Output result (λ _. give_all from.now (length (account_of self.old).events) self.old.counts.device)
+            (pass kind.Give) (account_of self.old) (account_of self.new) }
         ensures planned { IsTrue fails → IsErr result }
     {
         if fails {

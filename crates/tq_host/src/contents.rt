@@ -1,6 +1,6 @@
 ghost use Rattle.std.specs.Prelude.{◌≡◌, ◌<◌, ◌≤◌, [], ◌∷◌, ◌++◌, ℕ, Vec, length, get_or, IfOk, OnOk, OnErr};
 ghost use Rattle.std.specs.declared.alloc.Global.{Global};
-ghost use Rattle.tq_host.specs.View.{last};
+ghost use Rattle.tq_host.specs.View.{last_count};
 ghost use Rattle.tq_host.specs.Disk.{overwrite, resize};
 
 use crate::call::Call;
@@ -46,7 +46,7 @@ pub fn empty_devices(alloc: Global) -> Result<Vec<Vec<u8>>, AllocError>
 /// Adds a call to the record, which holds fewer than 2^64 - 1.
 pub fn push_call(calls: &mut Vec<Call>, call: Call) -> Result<(), AllocError>
     ensures ok { OnOk result (calls.new.items ≡ calls.old.items ++ call ∷ []) }
-    ensures small { OnOk result (length calls.new.items < last) }
+    ensures small { OnOk result (length calls.new.items < last_count) }
     ensures err { OnErr result (calls.new.items ≡ calls.old.items) }
 {
     if calls.len() >= usize::MAX - 1 {

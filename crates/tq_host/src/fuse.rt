@@ -1,7 +1,7 @@
 ghost use Rattle.std.specs.Prelude.{◌≡◌, ◌<◌, ◌≤◌, ◌+◌, length, IfOk, OnOk, OnErr};
 ghost use Rattle.tq_host.specs.declared.counts.Part.TheVariants.{Devices, Input, Output};
 ghost use Rattle.tq_host.specs.Counts.{no_faults, NoneFalls};
-ghost use Rattle.tq_host.specs.Calls.{HasBytesAt, IsWritten, IsTorn, IsResized, IsPulled, Elapses, IsDeviceCall, IsStill, Changes, Syncs, IsStreamCall, Takes, Gives, ElapsesGiving};
+ghost use Rattle.tq_host.specs.Calls.{HasBytesAt, IsWritten, IsTorn, IsResized, IsPulled, Elapses, IsDeviceCall, IsStill, Attaches, Changes, Syncs, IsStreamCall, Takes, Gives, ElapsesGiving};
 
 use crate::counts::{Counts, Part};
 use crate::{Failed, Host};
@@ -77,7 +77,7 @@ impl<H: Host> Host for FuseHost<H> {
     fn attach(&mut self, dev: u8, path: &str) -> Result<(), Failed>
         requires { dev < 8 }
         ensures call { IsDeviceCall result (fused_view H.view self.old) (fused_view H.view self.new) }
-        ensures still { IsStill (fused_view H.view self.old) (fused_view H.view self.new) }
+        ensures attached { Attaches H.tells dev path.now result (fused_view H.view self.old) (fused_view H.view self.new) }
         ensures fuse { IsFused Devices result self.old self.new }
     {
         self.fuse.pass(Part::Devices)?;
@@ -123,7 +123,8 @@ impl<H: Host> Host for FuseHost<H> {
         requires dev { dev < 8 }
         requires end { at + length from.now ≤ 268435456 }
         requires begin { H.tells.reads → at ≤ length ((fused_view H.view self.old).reads dev) }
-        ensures written { OnOk result (H.tells.reads → IsWritten at from.now ((fused_view H.view self.old).reads dev) ((fused_view H.view self.new).reads dev)) }
+        ensures written { OnOk result (H.tells.reads
+            → IsWritten at from.now ((fused_view H.view self.old).reads dev) ((fused_view H.view self.new).reads dev)) }
         ensures call { IsDeviceCall result (fused_view H.view self.old) (fused_view H.view self.new) }
         ensures change { Changes dev (IsTorn at (length from.now)) (fused_view H.view self.old) (fused_view H.view self.new) }
         ensures fuse { IsFused Devices result self.old self.new }

@@ -1,6 +1,6 @@
 ghost use Rattle.std.specs.Prelude.{◌≡◌, ◌<◌, ◌≤◌, ◌+◌, List, ℕ, length, IfOk, OnOk, OnErr, IsOk};
 ghost use Rattle.tq_host.specs.View.{Told, View, IsLawful};
-ghost use Rattle.tq_host.specs.Calls.{HasBytesAt, IsWritten, IsTorn, IsResized, IsPulled, Elapses, IsDeviceCall, IsStill, Changes, Syncs, IsStreamCall, Takes, Gives, ElapsesGiving};
+ghost use Rattle.tq_host.specs.Calls.{HasBytesAt, IsWritten, IsTorn, IsResized, IsPulled, Elapses, IsDeviceCall, IsStill, Attaches, Changes, Syncs, IsStreamCall, Takes, Gives, ElapsesGiving};
 
 use thiserror::Error;
 
@@ -38,7 +38,7 @@ pub trait Host {
     fn attach(&mut self, dev: u8, path: &str) -> Result<(), Failed>
         requires { dev < 8 }
         ensures call { IsDeviceCall result (view self.old) (view self.new) }
-        ensures still { IsStill (view self.old) (view self.new) };
+        ensures attached { Attaches tells dev path.now result (view self.old) (view self.new) };
 
     /// The device's length in bytes.
     fn length(&mut self, dev: u8) -> Result<u64, Failed>

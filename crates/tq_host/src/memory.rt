@@ -4,8 +4,8 @@ ghost use Rattle.tq_host.specs.declared.kind.CallKind.TheVariants as kind;
 ghost use Rattle.tq_host.specs.declared.plan.Planned.TheVariants.{Call, OfKind};
 ghost use Rattle.tq_host.specs.Counts.{no_faults};
 ghost use Rattle.tq_host.specs.Plan.{made_of, IsPlanSame, IsPlanAdded};
-ghost use Rattle.tq_host.specs.Calls.{HasBytesAt, IsWritten, IsTorn, IsResized, IsPulled, Elapses, IsDeviceCall, IsStill, Changes, Syncs, IsStreamCall, Takes, Gives, ElapsesGiving};
-ghost use Rattle.tq_host.specs.Events.{load, write, lost_write, resize, lost_resize, sync, take_some, give_all, pass};
+ghost use Rattle.tq_host.specs.Calls.{HasBytesAt, IsWritten, IsTorn, IsResized, IsPulled, Elapses, IsDeviceCall, IsStill, Attaches, Changes, Syncs, IsStreamCall, Takes, Gives, ElapsesGiving};
+ghost use Rattle.tq_host.specs.Events.{load, write, lost_write, resize, lost_resize, sync, attach, take_some, give_all, pass};
 ghost use Rattle.tq_host.specs.Account.{everything, view_of};
 ghost use Rattle.tq_host.specs.Outside.{account_of};
 ghost use Rattle.tq_host.specs.Lawful.{account_lawful};
@@ -51,7 +51,8 @@ impl MemHost {
     pub fn set_device(&mut self, dev: u8, image: &[u8]) -> Result<(), AllocError>
         requires { dev < 8 }
         ensures loaded { OnOk result (IsLoaded dev image.now (mem_view_of self.old) (mem_view_of self.new)) }
-        ensures recorded { OnOk result (mem_account_of self.new ≡ record (mem_account_of self.old) { events = (mem_account_of self.old).events ++ load dev image.now ∷ [] }) }
+        ensures recorded { OnOk result (mem_account_of self.new ≡ record (mem_account_of self.old)
+            { events = (mem_account_of self.old).events ++ load dev image.now ∷ [] }) }
         ensures err { OnErr result (mem_account_of self.new ≡ mem_account_of self.old) }
         ensures plan { (self.new.plan ≡ self.old.plan) × (self.new.piece ≡ self.old.piece) }
     {
@@ -70,7 +71,8 @@ impl MemHost {
     /// The `nth` call of that kind from now on, counted from 0 over all devices, is to fail. One
     /// past 2^64 - 1 calls never comes.
     pub fn fail_kind(&mut self, kind: CallKind, nth: u64) -> Result<(), AllocError>
-        ensures ok { OnOk result (made_of self.old.plan kind + nth < 2 ^ 64 → IsPlanAdded (OfKind kind (made_of self.old.plan kind + nth)) self.old.plan self.new.plan) }
+        ensures ok { OnOk result (made_of self.old.plan kind + nth < 2 ^ 64
+            → IsPlanAdded (OfKind kind (made_of self.old.plan kind + nth)) self.old.plan self.new.plan) }
         ensures late { OnOk result (2 ^ 64 ≤ made_of self.old.plan kind + nth → IsPlanSame self.old.plan self.new.plan) }
         ensures err { OnErr result (IsPlanSame self.old.plan self.new.plan) }
         ensures same { (self.new.outside ≡ self.old.outside) × (self.new.piece ≡ self.old.piece) }
@@ -103,14 +105,14 @@ impl Host for MemHost {
 
     ghost lawful = { λ m. account_lawful m.outside.script.items m.outside.calls.items m.outside.counts m.outside.fine m.outside.small };
 
-    fn attach(&mut self, dev: u8, _path: &str) -> Result<(), Failed>
+    fn attach(&mut self, dev: u8, path: &str) -> Result<(), Failed>
         requires { dev < 8 }
         ensures call { IsDeviceCall result (mem_view_of self.old) (mem_view_of self.new) }
-        ensures still { IsStill (mem_view_of self.old) (mem_view_of self.new) }
-        ensures made { IsMade Devices kind.Attach result (λ _. pass kind.Attach) (pass kind.Attach) self.old self.new }
+        ensures attached { Attaches everything dev path.now result (mem_view_of self.old) (mem_view_of self.new) }
+        ensures made { IsMade Devices kind.Attach result (λ _. attach dev path.now) (pass kind.Attach) self.old self.new }
     {
         let fails = self.plan.make(CallKind::Attach);
-        self.outside.look(CallKind::Attach, fails)
+        self.outside.attach(dev, path, fails)
     }
 
     fn length(&mut self, dev: u8) -> Result<u64, Failed>
@@ -188,7 +190,8 @@ impl Host for MemHost {
         ensures call { IsStreamCall result (mem_view_of self.old) (mem_view_of self.new) }
         ensures gave { Gives everything result from.now (mem_view_of self.old) (mem_view_of self.new) }
         ensures time { ElapsesGiving from.now (mem_view_of self.old) (mem_view_of self.new) }
-        ensures made { IsMade Output kind.Give result (λ _. give_all from.now self.old.outside.counts.device) (pass kind.Give) self.old self.new }
+        ensures made { IsMade Output kind.Give result (λ _. give_all from.now (mem_view_of self.old).clock self.old.outside.counts.device)
+            (pass kind.Give) self.old self.new }
     {
         let fails = self.plan.make(CallKind::Give);
         self.outside.give(from, fails)

@@ -4,8 +4,8 @@ ghost use Rattle.tq_host.specs.declared.kind.CallKind.{CallKind};
 ghost use Rattle.tq_host.specs.declared.kind.CallKind.TheVariants as kind;
 ghost use Rattle.tq_host.specs.declared.counts.Part.TheVariants.{Devices, Input, Output};
 ghost use Rattle.tq_host.specs.Counts.{no_faults};
-ghost use Rattle.tq_host.specs.View.{last};
-ghost use Rattle.tq_host.specs.Events.{Event, event_of, events_of, load, write, lost_write, resize, lost_resize, sync, take_some, give_all, pass, State, blank, step, replay, IsFine, Shows, LeadsTo, LeavesAll};
+ghost use Rattle.tq_host.specs.View.{last_count};
+ghost use Rattle.tq_host.specs.Events.{Event, event_of, events_of, load, write, lost_write, resize, lost_resize, sync, attach, take_some, give_all, pass, State, blank, step, replay, IsFine, Shows, LeadsTo, LeavesAll};
 ghost use Rattle.tq_host.specs.Account.{Account, IsKept, IsRecorded};
 
 use crate::call::Call;
@@ -30,7 +30,7 @@ pub struct Outside {
     ghost gave: { output.items ≡ (replay blank (events_of calls.items)).output },
     ghost took: { taken ≡ (replay blank (events_of calls.items)).taken },
     ghost within: { taken ≤ length script.items },
-    ghost small: { length calls.items < last },
+    ghost small: { length calls.items < last_count },
 }
 
 impl Outside {
@@ -111,6 +111,13 @@ impl Outside {
         self.note(Call::Sync(dev))
     }
 
+    pub fn keep_attach(&mut self, dev: u8, path: &str) -> Result<(), AllocError>
+        ensures { IsKept (attach dev path.now) result (account_of self.old) (account_of self.new) }
+    {
+        let bytes = path.as_bytes().to_vec(self.alloc)?;
+        self.note(Call::Attach(dev, bytes))
+    }
+
     pub fn keep_pass(&mut self, kind: CallKind) -> Result<(), AllocError>
         ensures kept { IsKept (pass kind) result (account_of self.old) (account_of self.new) }
         ensures devices { self.new.devices ≡ self.old.devices }
@@ -128,12 +135,14 @@ impl Outside {
     }
 
     pub fn keep_give(&mut self, from: &[u8]) -> Result<(), AllocError>
-        ensures { IsKept (give_all from.now self.old.counts.device) result (account_of self.old) (account_of self.new) }
+        ensures { IsKept (give_all from.now (length (account_of self.old).events) self.old.counts.device) result (account_of self.old) (account_of self.new) }
     {
         let bytes = from.to_vec(self.alloc)?;
         let mut output = self.output.as_slice().to_vec(self.alloc)?;
         output.extend_from_slice(from)?;
-        push_call(&mut self.calls, Call::Give(bytes, self.counts.device))?;
+        let clock = self.calls.len() as u64;
+        let call = Call::Give(bytes, clock, self.counts.device);
+        push_call(&mut self.calls, call)?;
         self.output = output;
         Ok(())
     }

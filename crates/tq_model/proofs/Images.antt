@@ -1,21 +1,27 @@
 -- From the parts of an image to its reading, and to the site for which one device stands.
-use Rattle.std.proofs.Common.{◌≡◌, ◌<◌, ◌≤◌, ℕ, ◌+◌, ◌*◌, List, [], ◌∷◌, ◌++◌, refl, sym, ◌∙◌, ap, subst, arith, Option, Some, None, Bool, true, false, length, cond}
-use Rattle.std.specs.Prelude.{◌==◌, nat_lt, ◌&&◌, option_map, is_some}
+use Rattle.std.proofs.Common.{◌≡◌, ◌<◌, ◌≤◌, ℕ, ◌+◌, ◌*◌, List, [], ◌∷◌, ◌++◌, refl, sym, ◌∙◌, ap, subst, arith, Option, Some, None, Bool, true, false, length, cond, map, not}
+use Rattle.std.specs.Prelude.{◌==◌, nat_lt, ◌&&◌, option_map, is_some, unwrap_or}
+use Rattle.std.specs.List.{All, list_all, flat_map, find}
 use Rattle.std.specs.Option.{option_and_then}
+use Rattle.std.proofs.lemmas.Bool.{and_from, eq-eqb}
 use Rattle.std.proofs.lemmas.Bool.Decides.{nat_tests}
-use Rattle.std.proofs.lemmas.List.Folds.{list_all-append}
-use Rattle.tq_model.specs.Space.{Space, crashed}
-use Rattle.tq_model.specs.Moves.{IndexedSpace}
+use Rattle.std.proofs.lemmas.List.{append-nil}
+use Rattle.std.proofs.lemmas.List.Elements.{All-nil, All-cons, All-head, All-tail, All-map}
+use Rattle.std.proofs.lemmas.List.Folds.{list_all-append, list_all-map, map_fixed}
+use Rattle.std.proofs.lemmas.Option.{same_Some}
+use Rattle.tq_model.specs.DeviceForm.{Journal, bytes_of, first_page}
+use Rattle.tq_model.specs.Space.{Entry, Space, Queue, crashed}
+use Rattle.tq_model.specs.Moves.{IndexedQueue, IndexedSpace, the_queue, space_of}
 use Rattle.tq_model.specs.Plain.{KeepsAllAtCrash}
-use Rattle.tq_model.specs.SpaceForm.{raw_space, shape_of, empty_space, replayed}
+use Rattle.tq_model.specs.SpaceForm.{RawSpace, raw_space, shape_of, empty_space, replayed}
 use Rattle.tq_model.proofs.RecordMoves.{crashed_plain}
-use Rattle.tq_model.proofs.Replays.{replayed_plain, empty_plain}
-use Rattle.tq_model.specs.Site.{Site, SpaceOnDevice, durable}
-use Rattle.tq_model.specs.Parts.{IsPart}
-use Rattle.tq_model.specs.Reading.{Test, Content, Reading, Blank, Holds, Damaged, reading, is_whole, content_of, content_with, site_read, site_found, combined, DevicePart, NamedSpace, device_part, device_tests, space_tests, page_tests, hold_all, replayed_in, placed_as, placed_in, space_start, log_start, Replayed, test, space_in, payloads_in, epoch_bound}
+use Rattle.tq_model.proofs.Replays.{AreUpto, replayed_keeps, replayed_plain, empty_plain, replayed_upto, empty_upto}
+use Rattle.tq_model.specs.Site.{Site, Volume, SpaceOnDevice, present, durable, durable_space, on_spaces}
+use Rattle.tq_model.specs.Parts.{IsPart, table_with}
+use Rattle.tq_model.specs.Reading.{Content, Reading, Blank, Holds, Damaged, Stands, FirstDamaged, reading, is_whole, content_of, content_with, site_read, site_in, site_found, combined, combined_by, is_damaged, goes_with, are_upto, is_upto, journal_epoch, volume_read, below, DevicePart, NamedSpace, device_part, device_tests, space_tests, page_tests, hold_all, replayed_in, placed_as, placed_in, Replayed, space_in, payloads_in, epoch_bound}
 
-all_append : (xs ys : List Test) → hold_all (xs ++ ys) ≡ (hold_all xs && hold_all ys)
-all_append xs ys = list_all-append (λ (t : Test). t.holds) xs ys
+all_append : (xs ys : List Bool) → hold_all (xs ++ ys) ≡ (hold_all xs && hold_all ys)
+all_append xs ys = list_all-append (λ test. test) xs ys
 
 not_short : (n : ℕ) → 131072 ≤ n → nat_lt n 131072 ≡ false
 not_short n le = grind (arith, nat_tests)
@@ -23,136 +29,188 @@ not_short n le = grind (arith, nat_tests)
 is_short : (n : ℕ) → n < 131072 → nat_lt n 131072 ≡ true
 is_short n lt = grind (arith, nat_tests)
 
+abbrev reading_by : ℕ → List ℕ → Bool → Bool → Reading
+reading_by place image short whole = cond short Blank (cond whole (Holds (content_of place image)) Damaged)
+
 pub short_reading : (image : List ℕ) → length image < 131072 → reading 0 image ≡ Blank
-short_reading image lt = ap (λ (b : Bool). cond b Blank (cond (is_whole 0 image) (Holds (content_of 0 image)) Damaged)) (is_short (length image) lt)
+short_reading image lt = ap (λ b. reading_by 0 image b (is_whole 0 image)) (is_short (length image) lt)
 
 -- the reading of an image that is not blank
-long_reading : (image : List ℕ) (b : Bool) → 131072 ≤ length image → is_whole 0 image ≡ b → reading 0 image ≡ cond b (Holds (content_of 0 image)) Damaged
-long_reading image b le e = ap (λ (b : Bool). cond b Blank (cond (is_whole 0 image) (Holds (content_of 0 image)) Damaged)) (not_short (length image) le) ∙ ap (λ (b : Bool). cond b (Holds (content_of 0 image)) Damaged) e
+long_reading : (image : List ℕ) (b : Bool) → 131072 ≤ length image → is_whole 0 image ≡ b → reading 0 image ≡ reading_by 0 image false b
+long_reading image b le e = ap (λ short. reading_by 0 image short (is_whole 0 image)) (not_short (length image) le) ∙ ap (reading_by 0 image false) e
 
-whole_is : (image : List ℕ) (d : DevicePart) (a b : Bool) → hold_all (device_tests 0 image) ≡ a → device_part image ≡ d → hold_all (space_tests 0 d d.named image) ≡ b → is_whole 0 image ≡ (a && b)
+-- the tests of the spaces that these parts name
+abbrev spaces_tests : DevicePart → List ℕ → List Bool
+spaces_tests d image = flat_map (space_tests 0 d image) (present d.entries)
+
+whole_is : (image : List ℕ) (d : DevicePart) (a b : Bool) → hold_all (device_tests 0 image) ≡ a → device_part 0 image ≡ d → hold_all (spaces_tests d image) ≡ b → is_whole 0 image ≡ (a && b)
 whole_is image d a b tests part spaces =
-    all_append (device_tests 0 image) (space_tests 0 (device_part image) (device_part image).named image)
-    ∙ ap (λ (x : Bool). x && hold_all (space_tests 0 (device_part image) (device_part image).named image)) tests
-    ∙ ap (λ (p : DevicePart). a && hold_all (space_tests 0 p p.named image)) part ∙ ap (λ (x : Bool). a && x) spaces
+    all_append (device_tests 0 image) (spaces_tests (device_part 0 image) image)
+    ∙ ap (λ x. x && hold_all (spaces_tests (device_part 0 image) image)) tests
+    ∙ ap (λ (p : DevicePart). a && hold_all (spaces_tests p image)) part ∙ ap (λ x. a && x) spaces
 
--- an image with parts, and a space where its table names one
-pub part_reading : (d : DevicePart) (placed : Option SpaceOnDevice) (image : List ℕ) → IsPart d image → hold_all (space_tests 0 d d.named image) ≡ true → placed_in 0 d image ≡ placed → reading 0 image ≡ Holds (content_with d placed)
-part_reading d placed image is spaces e =
+-- an image with parts, whose spaces pass their tests
+part_reading : (d : DevicePart) (image : List ℕ) → IsPart d image → hold_all (spaces_tests d image) ≡ true → reading 0 image ≡ Holds (content_with d (map (placed_in 0 d image) d.entries))
+part_reading d image is spaces =
     long_reading image true is.size (whole_is image d true true is.tests is.part spaces)
-    ∙ ap (λ (p : DevicePart). Holds (content_with p (placed_in 0 p image))) is.part ∙ ap (λ (o : Option SpaceOnDevice). Holds (content_with d o)) e
+    ∙ ap (λ (p : DevicePart). Holds (content_with p (map (placed_in 0 p image) p.entries))) is.part
 
--- the parts are damaged, or the space is
+-- the parts are damaged, or a space is
 pub damaged_parts : (image : List ℕ) → 131072 ≤ length image → hold_all (device_tests 0 image) ≡ false → reading 0 image ≡ Damaged
-damaged_parts image le tests = long_reading image false le (whole_is image (device_part image) false (hold_all (space_tests 0 (device_part image) (device_part image).named image)) tests refl refl)
+damaged_parts image le tests = long_reading image false le (whole_is image (device_part 0 image) false (hold_all (spaces_tests (device_part 0 image) image)) tests refl refl)
 
-pub damaged_space : (d : DevicePart) (image : List ℕ) → IsPart d image → hold_all (space_tests 0 d d.named image) ≡ false → reading 0 image ≡ Damaged
-damaged_space d image is spaces = long_reading image false is.size (whole_is image d true false is.tests is.part spaces)
+damaged_spaces : (d : DevicePart) (image : List ℕ) → IsPart d image → hold_all (spaces_tests d image) ≡ false → reading 0 image ≡ Damaged
+damaged_spaces d image is spaces = long_reading image false is.size (whole_is image d true false is.tests is.part spaces)
 
--- the tests of a space
-pub space_tests_are : (d : DevicePart) (n : NamedSpace) (image : List ℕ) → hold_all (space_tests 0 d (Some n) image) ≡ (hold_all (page_tests space_start n.pages (raw_space space_start image)) && is_some (replayed_in 0 d n image))
-space_tests_are d n image = all_append (page_tests space_start n.pages (raw_space space_start image)) (test log_start (is_some (replayed_in 0 d n image)) ∷ []) ∙ by_last (is_some (replayed_in 0 d n image))
-  where
-    by_last : (b : Bool) → (hold_all (page_tests space_start n.pages (raw_space space_start image)) && (b && true)) ≡ (hold_all (page_tests space_start n.pages (raw_space space_start image)) && b)
-    by_last true = refl
-    by_last false = refl
+-- ---- one space
+
+-- the tests of a space's own pages
+abbrev pub has_pages : DevicePart → NamedSpace → List ℕ → Bool
+has_pages d n image = hold_all (page_tests n.pages (raw_space (first_page (bytes_of n.extents image)))) && is_some (replayed_in 0 d n image)
+
+one_space : (d : DevicePart) (n : NamedSpace) (image : List ℕ) → hold_all (space_tests 0 d image n ++ []) ≡ has_pages d n image
+one_space d n image =
+    let page = hold_all (page_tests n.pages (raw_space (first_page (bytes_of n.extents image)))) in
+    let by_last : (b : Bool) → (page && (b && true)) ≡ (page && b) = λ b. elim b as (λ x. (page && (x && true)) ≡ (page && x)) [ true ↦ refl | false ↦ refl ] in
+    ap hold_all (append-nil (space_tests 0 d image n))
+    ∙ all_append (page_tests n.pages (raw_space (first_page (bytes_of n.extents image)))) (is_some (replayed_in 0 d n image) ∷ []) ∙ by_last (is_some (replayed_in 0 d n image))
+
+tests_of_one : (d : DevicePart) (n : NamedSpace) (image : List ℕ) → d.entries ≡ table_with (Some n) → hold_all (spaces_tests d image) ≡ has_pages d n image
+tests_of_one d n image named = ap (λ (entries : List (Option NamedSpace)). hold_all (flat_map (space_tests 0 d image) (present entries))) named ∙ one_space d n image
 
 -- a device without a space, and one with a space
-pub bare_reading : (d : DevicePart) (image : List ℕ) → IsPart d image → d.named ≡ None → reading 0 image ≡ Holds (content_with d None)
+bare_reading : (d : DevicePart) (image : List ℕ) → IsPart d image → d.entries ≡ table_with None → reading 0 image ≡ Holds (content_with d (table_with None))
 bare_reading d image is none =
-    part_reading d None image is (ap (λ (o : Option NamedSpace). hold_all (space_tests 0 d o image)) none)
-    (ap (λ (o : Option NamedSpace). option_and_then (λ (n : NamedSpace). option_map (placed_as n) (replayed_in 0 d n image)) o) none)
+    part_reading d image is (ap (λ (entries : List (Option NamedSpace)). hold_all (flat_map (space_tests 0 d image) (present entries))) none)
+    ∙ ap (λ (entries : List (Option NamedSpace)). Holds (content_with d (map (placed_in 0 d image) entries))) none
 
-pub space_reading : (d : DevicePart) (n : NamedSpace) (r : Replayed) (image : List ℕ) → IsPart d image → d.named ≡ Some n → hold_all (page_tests space_start n.pages (raw_space space_start image)) ≡ true → replayed_in 0 d n image ≡ Some r
-    → reading 0 image ≡ Holds (content_with d (Some (placed_as n r)))
-space_reading d n r image is named page reads =
-    part_reading d (Some (placed_as n r)) image is
-    (ap (λ (o : Option NamedSpace). hold_all (space_tests 0 d o image)) named ∙ space_tests_are d n image ∙ ap (λ (b : Bool). b && is_some (replayed_in 0 d n image)) page ∙ ap is_some reads)
-    (ap (λ (o : Option NamedSpace). option_and_then (λ (n : NamedSpace). option_map (placed_as n) (replayed_in 0 d n image)) o) named ∙ ap (option_map (placed_as n)) reads)
+space_reading : (d : DevicePart) (n : NamedSpace) (r : Replayed) (image : List ℕ) → IsPart d image → d.entries ≡ table_with (Some n) → has_pages d n image ≡ true → replayed_in 0 d n image ≡ Some r
+    → reading 0 image ≡ Holds (content_with d (table_with (Some (placed_as n r))))
+space_reading d n r image is named pages reads =
+    part_reading d image is (tests_of_one d n image named ∙ pages)
+    ∙ ap (λ (entries : List (Option NamedSpace)). Holds (content_with d (map (placed_in 0 d image) entries))) named
+    ∙ ap (λ (o : Option Replayed). Holds (content_with d (table_with (option_map (placed_as n) o)))) reads
 
-pub space_damage : (d : DevicePart) (n : NamedSpace) (image : List ℕ) → IsPart d image → d.named ≡ Some n → (hold_all (page_tests space_start n.pages (raw_space space_start image)) && is_some (replayed_in 0 d n image)) ≡ false → reading 0 image ≡ Damaged
-space_damage d n image is named e = damaged_space d image is (ap (λ (o : Option NamedSpace). hold_all (space_tests 0 d o image)) named ∙ space_tests_are d n image ∙ e)
+pub space_damage : (d : DevicePart) (n : NamedSpace) (image : List ℕ) → IsPart d image → d.entries ≡ table_with (Some n) → has_pages d n image ≡ false → reading 0 image ≡ Damaged
+space_damage d n image is named e = damaged_spaces d image is (tests_of_one d n image named ∙ e)
 
--- Of one device
-
-same_site : (n : ℕ) → (n == n) ≡ true
-same_site n = grind (arith, nat_tests)
+-- ---- what one device stands for
 
 pub found_blank : (images : ℕ → List ℕ) → reading 0 (images 0) ≡ Blank → site_found 1 images ≡ Some (site_read (Blank ∷ []))
-found_blank images is = ap (λ (r : Reading). combined (r ∷ [])) is
-
-pub combined_holds : (c : Content) → combined (Holds c ∷ []) ≡ Some (site_read (Holds c ∷ []))
-combined_holds c = ap (λ (b : Bool). cond (b && true) (Some (site_read (Holds c ∷ []))) None) (same_site c.site)
-
-pub found_holds : (images : ℕ → List ℕ) (c : Content) → reading 0 (images 0) ≡ Holds c → site_found 1 images ≡ Some (site_read (Holds c ∷ []))
-found_holds images c is = ap (λ (r : Reading). combined (r ∷ [])) is ∙ combined_holds c
+found_blank images is = ap (λ (r : Reading). site_in (combined (r ∷ []))) is
 
 pub found_damaged : (images : ℕ → List ℕ) → reading 0 (images 0) ≡ Damaged → site_found 1 images ≡ None
-found_damaged images is = ap (λ (r : Reading). combined (r ∷ [])) is
+found_damaged images is = ap (λ (r : Reading). site_in (combined (r ∷ []))) is
 
--- a space that a crash leaves as it is
-pub record OutlivesCrash (placed : Option SpaceOnDevice) : Type 0 where
-  pub same : (p : SpaceOnDevice) → placed ≡ Some p → crashed p.space ≡ p.space
+found_holds : (images : ℕ → List ℕ) (c : Content) → goes_with (Some c) [] c ≡ true → reading 0 (images 0) ≡ Holds c → site_found 1 images ≡ Some (site_read (Holds c ∷ []))
+found_holds images c goes is =
+    ap (λ (r : Reading). site_in (combined (r ∷ []))) is ∙ ap (λ b. site_in (combined_by (Holds c ∷ []) (cond (not b) (Some 0) None))) goes
 
-pub durable_read : (d : DevicePart) (placed : Option SpaceOnDevice) → OutlivesCrash placed → durable (site_read (Holds (content_with d placed) ∷ [])) ≡ site_read (Holds (content_with d placed) ∷ [])
-durable_read d None is = refl
-durable_read d (Some p) is = ap (λ (s : Space). site_read (Holds (content_with d (Some (record p { space = s }))) ∷ [])) (is.same p refl)
+same_site : (n : ℕ) → (n == n) ≡ true
+same_site n = eq-eqb n n refl
 
--- What is found is durable.
+pub found_bare : (d : DevicePart) (images : ℕ → List ℕ) → IsPart d (images 0) → d.entries ≡ table_with None → site_found 1 images ≡ Some (site_read (Holds (content_with d (table_with None)) ∷ []))
+found_bare d images is none = found_holds images (content_with d (table_with None)) (ap (λ b. b && true) (same_site d.site)) (bare_reading d (images 0) is none)
 
-some_replayed : (a b : Replayed) → Some a ≡ Some b → a ≡ b
-some_replayed a b e = cc
+-- ---- what a log makes
 
--- a space that a log makes is plain
-space_in_plain : (site number epoch pages : ℕ) (image : List ℕ) (r : Replayed) → space_in site number epoch pages image ≡ Some r → KeepsAllAtCrash r.space
-space_in_plain site number epoch pages image r e = from_payloads (payloads_in pages image) e
+-- what holds of a space without queues, and after each record, holds of what is read
+space_in_keeps : (P : IndexedSpace → Type 0) (site number epoch pages : ℕ) (bytes : List ℕ) (r : Replayed)
+    → ((ps : List (List ℕ)) (t : IndexedSpace) → replayed epoch ps (empty_space (shape_of pages (raw_space (first_page bytes))) site number) ≡ Some t → P t) → space_in site number epoch pages bytes ≡ Some r → P r.space
+space_in_keeps P site number epoch pages bytes r keeps e = from_payloads (payloads_in pages bytes) e
   where
-    from_payloads : (o : Option (List (List ℕ)))
-        → option_and_then (λ payloads. option_map (λ s. record { payloads = payloads; space = s }) (replayed epoch payloads (empty_space (shape_of pages (raw_space space_start image)) site number))) o ≡ Some r → KeepsAllAtCrash r.space
+    start : IndexedSpace
+    start = empty_space (shape_of pages (raw_space (first_page bytes))) site number
+
+    from_space : (payloads : List (List ℕ)) (o : Option IndexedSpace) → replayed epoch payloads start ≡ o → option_map (λ s. record { payloads = payloads; space = s }) o ≡ Some r → P r.space
+    from_space payloads None is e = absurd (cc)
+    from_space payloads (Some t) is e = subst (λ (x : Replayed). P x.space) (same_Some (record { payloads = payloads; space = t }) r e) (keeps payloads t is)
+
+    from_payloads : (o : Option (List (List ℕ))) → option_and_then (λ payloads. option_map (λ s. record { payloads = payloads; space = s }) (replayed epoch payloads start)) o ≡ Some r → P r.space
     from_payloads None e = absurd (cc)
-    from_payloads (Some payloads) e = from_space (replayed epoch payloads (empty_space (shape_of pages (raw_space space_start image)) site number)) refl e
-      where
-        from_space : (o : Option IndexedSpace) → replayed epoch payloads (empty_space (shape_of pages (raw_space space_start image)) site number) ≡ o
-            → option_map (λ s. record { payloads = payloads; space = s }) o ≡ Some r → KeepsAllAtCrash r.space
-        from_space None is e = absurd (cc)
-        from_space (Some t) is e =
-            subst (λ (x : Replayed). KeepsAllAtCrash x.space) (some_replayed (record { payloads = payloads; space = t }) r e)
-            (replayed_plain epoch payloads (empty_space (shape_of pages (raw_space space_start image)) site number) t (empty_plain (shape_of pages (raw_space space_start image)) site number) is)
+    from_payloads (Some payloads) e = from_space payloads (replayed epoch payloads start) refl e
 
-placed_outlives : (d : DevicePart) (named : Option NamedSpace) (image : List ℕ) → OutlivesCrash (option_and_then (λ (n : NamedSpace). option_map (placed_as n) (replayed_in 0 d n image)) named)
-placed_outlives d None image = record { same = λ p e. absurd (cc) }
-placed_outlives d (Some n) image = by_replay (replayed_in 0 d n image) refl
+space_in_plain : (site number epoch pages : ℕ) (bytes : List ℕ) (r : Replayed) → space_in site number epoch pages bytes ≡ Some r → KeepsAllAtCrash r.space
+space_in_plain site number epoch pages bytes r e =
+    let shape = shape_of pages (raw_space (first_page bytes)) in
+    space_in_keeps KeepsAllAtCrash site number epoch pages bytes r (λ ps t is. replayed_plain epoch ps (empty_space shape site number) t (empty_plain shape site number) is) e
+
+-- the epochs of its entries
+space_in_upto : (site number epoch pages : ℕ) (bytes : List ℕ) (r : Replayed) → space_in site number epoch pages bytes ≡ Some r → AreUpto epoch r.space
+space_in_upto site number epoch pages bytes r e =
+    let shape = shape_of pages (raw_space (first_page bytes)) in
+    space_in_keeps (AreUpto epoch) site number epoch pages bytes r (λ ps t is. replayed_upto epoch ps (empty_space shape site number) t (empty_upto epoch shape site number) is) e
+
+all_true : {X : Type 0} (test : X → Bool) (xs : List X) → All (λ x. test x ≡ true) xs → list_all test xs ≡ true
+all_true test [] all = refl
+all_true test (x ∷ xs) all = and_from (test x) (list_all test xs) (All-head (λ y. test y ≡ true) x xs all) (all_true test xs (All-tail (λ y. test y ≡ true) x xs all))
+
+upto_tested : (epoch : ℕ) (s : IndexedSpace) → AreUpto epoch s → list_all (λ (q : Queue). list_all (is_upto epoch) q.items) (space_of s).queues ≡ true
+upto_tested epoch s all =
+    list_all-map (λ (q : Queue). list_all (is_upto epoch) q.items) the_queue s.queues
+    ∙ all_true (λ (q : IndexedQueue). list_all (is_upto epoch) q.queue.items) s.queues (weaker s.queues all)
   where
-    some_placed : (a b : SpaceOnDevice) → Some a ≡ Some b → a ≡ b
-    some_placed a b e = cc
+    weaker : (qs : List IndexedQueue) → All (λ (q : IndexedQueue). All (λ item. is_upto epoch item ≡ true) q.queue.items) qs → All (λ (q : IndexedQueue). list_all (is_upto epoch) q.queue.items ≡ true) qs
+    weaker [] all = All-nil (λ (q : IndexedQueue). list_all (is_upto epoch) q.queue.items ≡ true)
+    weaker (q ∷ qs) all =
+        All-cons (λ (q : IndexedQueue). list_all (is_upto epoch) q.queue.items ≡ true) q qs
+        (all_true (is_upto epoch) q.queue.items (All-head (λ (q : IndexedQueue). All (λ item. is_upto epoch item ≡ true) q.queue.items) q qs all))
+        (weaker qs (All-tail (λ (q : IndexedQueue). All (λ item. is_upto epoch item ≡ true) q.queue.items) q qs all))
 
-    by_replay : (o : Option Replayed) → replayed_in 0 d n image ≡ o → OutlivesCrash (option_map (placed_as n) o)
-    by_replay None is = record { same = λ p e. absurd (cc) }
-    by_replay (Some r) is = record {
-      same = λ p e.
-          subst (λ (x : SpaceOnDevice). crashed x.space ≡ x.space) (some_placed (placed_as n r) p e)
-          (crashed_plain r.space (space_in_plain d.site (8 * n.ordinal + 0) (epoch_bound 0 d) n.pages image r is));
-    }
+pub found_space : (d : DevicePart) (n : NamedSpace) (j : Journal) (r : Replayed) (images : ℕ → List ℕ) → IsPart d (images 0) → d.entries ≡ table_with (Some n) → d.journal ≡ Some j
+    → hold_all (page_tests n.pages (raw_space (first_page (bytes_of n.extents (images 0))))) ≡ true → replayed_in 0 d n (images 0) ≡ Some r
+    → site_found 1 images ≡ Some (site_read (Holds (content_with d (table_with (Some (placed_as n r)))) ∷ []))
+found_space d n j r images is named journal page reads =
+    let c = content_with d (table_with (Some (placed_as n r))) in
+    let epoch = journal_epoch c in
+    let bound : epoch_bound d ≡ epoch = ap (λ (o : Option Journal). unwrap_or (option_map (λ (k : Journal). k.epoch) o) 4294967295) journal ∙ sym (ap (λ (o : Option Journal). unwrap_or (option_map (λ (k : Journal). k.epoch) o) 0) journal) in
+    let all = subst (λ e. AreUpto e r.space) bound (space_in_upto d.site (8 * n.ordinal + 0) (epoch_bound d) n.pages (bytes_of n.extents (images 0)) r reads) in
+    let goes : goes_with (Some c) [] c ≡ true = (λ i. same_site d.site i && (true && (upto_tested epoch r.space all i && true))) in
+    found_holds images c goes (space_reading d n r (images 0) is named (and_from (hold_all (page_tests n.pages (raw_space (first_page (bytes_of n.extents (images 0)))))) (is_some (replayed_in 0 d n (images 0))) page (ap is_some reads)) reads)
 
-holds_content : (image : List ℕ) (c : Content) → reading 0 image ≡ Holds c → c ≡ content_of 0 image
-holds_content image c is = by_tests (nat_lt (length image) 131072) (is_whole 0 image) is
+-- ---- what is found is durable
+
+every : {X : Type 0} (P : X → Type 0) → ((x : X) → P x) → (xs : List X) → All P xs
+every P each [] = All-nil P
+every P each (x ∷ xs) = All-cons P x xs (each x) (every P each xs)
+
+placed_durable : (place : ℕ) (d : DevicePart) (image : List ℕ) (named : Option NamedSpace) → option_map durable_space (placed_in place d image named) ≡ placed_in place d image named
+placed_durable place d image None = refl
+placed_durable place d image (Some n) = by_replay (replayed_in place d n image) refl
   where
-    by_tests : (short whole : Bool) → cond short Blank (cond whole (Holds (content_of 0 image)) Damaged) ≡ Holds c → c ≡ content_of 0 image
-    by_tests true whole e = absurd (cc)
-    by_tests false true e = cc
-    by_tests false false e = absurd (cc)
+    by_replay : (o : Option Replayed) → replayed_in place d n image ≡ o → option_map durable_space (option_map (placed_as n) o) ≡ option_map (placed_as n) o
+    by_replay None is = refl
+    by_replay (Some r) is =
+        ap (λ (s : Space). Some (record (placed_as n r) { space = s })) (crashed_plain r.space (space_in_plain d.site (8 * n.ordinal + place) (epoch_bound d) n.pages (bytes_of n.extents image) r is))
 
-some_site : (a b : Site) → Some a ≡ Some b → a ≡ b
-some_site a b e = cc
+content_durable : (place : ℕ) (image : List ℕ) → on_spaces durable_space (content_of place image).volume ≡ (content_of place image).volume
+content_durable place image =
+    let d = device_part place image in
+    ap (λ (entries : List (Option SpaceOnDevice)). record { clusters = d.clusters; next_space = d.next_space; entries = entries })
+    (map_fixed (option_map durable_space) (map (placed_in place d image) d.entries)
+    (All-map (λ (o : Option SpaceOnDevice). option_map durable_space o ≡ o) (placed_in place d image) d.entries (every (λ named. option_map durable_space (placed_in place d image named) ≡ placed_in place d image named) (placed_durable place d image) d.entries)))
 
-pub found_durable : (images : ℕ → List ℕ) (s : Site) → site_found 1 images ≡ Some s → durable s ≡ s
-found_durable images s is = by_reading (reading 0 (images 0)) refl
+reading_durable : (place : ℕ) (image : List ℕ) → option_map (on_spaces durable_space) (volume_read (reading place image)) ≡ volume_read (reading place image)
+reading_durable place image = by_tests (nat_lt (length image) 131072) (is_whole place image)
   where
-    by_reading : (r : Reading) → reading 0 (images 0) ≡ r → durable s ≡ s
-    by_reading Blank e = subst (λ (x : Site). durable x ≡ x) (some_site (site_read (Blank ∷ [])) s (sym (found_blank images e) ∙ is)) refl
-    by_reading (Holds c) e =
-        let image = images 0 in
-        let d = device_part image in
-        subst (λ (x : Site). durable x ≡ x) (some_site (site_read (Holds c ∷ [])) s (sym (found_holds images c e) ∙ is))
-        (subst (λ (k : Content). durable (site_read (Holds k ∷ [])) ≡ site_read (Holds k ∷ [])) (sym (holds_content image c e)) (durable_read d (placed_in 0 d image) (placed_outlives d d.named image)))
-    by_reading Damaged e = absurd (let none : None ≡ Some s = sym (found_damaged images e) ∙ is in cc)
+    by_tests : (short whole : Bool) → option_map (on_spaces durable_space) (volume_read (reading_by place image short whole)) ≡ volume_read (reading_by place image short whole)
+    by_tests true whole = refl
+    by_tests false true = ap (λ (v : Volume). Some v) (content_durable place image)
+    by_tests false false = refl
+
+-- whatever devices stand for, a crash leaves it as it is
+pub found_durable : (devices : ℕ) (images : ℕ → List ℕ) (s : Site) → site_found devices images ≡ Some s → durable s ≡ s
+found_durable devices images s is =
+    subst (λ (x : Site). durable x ≡ x) (by_damage (find (is_damaged readings) (below (length readings))) is)
+    (ap (λ (volumes : List (Option Volume)). record (site_read readings) { devices = volumes })
+    (map_fixed (option_map (on_spaces durable_space)) (map volume_read readings)
+    (All-map (λ (o : Option Volume). option_map (on_spaces durable_space) o ≡ o) volume_read readings
+    (All-map (λ (r : Reading). option_map (on_spaces durable_space) (volume_read r) ≡ volume_read r) (λ d. reading d (images d)) (below devices)
+    (every (λ d. option_map (on_spaces durable_space) (volume_read (reading d (images d))) ≡ volume_read (reading d (images d))) (λ d. reading_durable d (images d)) (below devices))))))
+  where
+    readings : List Reading
+    readings = map (λ d. reading d (images d)) (below devices)
+
+    by_damage : (o : Option ℕ) → site_in (combined_by readings o) ≡ Some s → site_read readings ≡ s
+    by_damage None e = same_Some (site_read readings) s e
+    by_damage (Some d) e = absurd (cc)

@@ -2,14 +2,9 @@ pub mod LineText
 pub mod NameTests
 pub mod Places
 pub mod Maps
-pub mod QueueLists
-pub mod Limits
-pub mod SpaceSteps
-pub mod Refusals
-pub mod Tables
-pub mod Sites
-pub mod Asking
 pub mod NextNumber
 pub mod RecordMoves
 pub mod Replays
 pub mod Images
+pub mod SpaceLogLemmas
+pub mod CreationLemmas

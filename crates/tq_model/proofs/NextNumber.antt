@@ -1,6 +1,7 @@
 -- A step takes one number at most.
-use Rattle.std.proofs.Common.{◌+◌, ◌≤◌, ◌==◌, true, false, arith, Option, Some, None}
+use Rattle.std.proofs.Common.{ℕ, List, ◌+◌, ◌≤◌, ◌==◌, true, false, arith, Option, Some, None}
 use Rattle.std.specs.Prelude.{if◌then◌else◌, nat_lt, length, set}
+use Rattle.tq_types.specs.declared.identifiers.Arrival.{Arrival}
 use Rattle.tq_model.specs.declared.answer.Answer.{Answer}
 use Rattle.tq_model.specs.declared.answer.Answer.TheVariants.{Done, Damaged, Invalid}
 use Rattle.tq_model.specs.declared.answer.DeviceAnswer.{DeviceAnswer}
@@ -11,14 +12,10 @@ use Rattle.tq_model.specs.declared.request.SpaceRequest.TheVariants as spaces
 use Rattle.tq_model.specs.declared.request.CallRequest.TheVariants as calls
 use Rattle.tq_model.specs.declared.request.Creation.{Creation}
 use Rattle.tq_model.specs.declared.request.SpaceCreation.{SpaceCreation}
-use Rattle.tq_model.specs.declared.request.QueueCreation.{QueueCreation}
-use Rattle.tq_model.specs.declared.calls.EnqueueWords.{EnqueueWords}
-use Rattle.tq_model.specs.declared.calls.DequeueWords.{DequeueWords}
-use Rattle.tq_model.specs.SpaceForm.{longest_body, added_length, gone_length, made_length}
-use Rattle.tq_model.specs.EnqueueStep.{enqueue_step, enqueue_refusal}
-use Rattle.tq_model.specs.DequeueStep.{dequeue_step, dequeue_refusal}
-use Rattle.tq_model.specs.Site.{Site, Volume, SpaceOnDevice, durable, space_named, volume_of, with_space}
-use Rattle.tq_model.specs.Step.{Outcome, boot, can_boot, booted, ready, creation_refusal, unless_refused, new_volume, site_asked, with_new_device, refused, unless, logged_with, with_queue, queue_refusal, call_refusal, called, with_next_number, enqueue_call, dequeue_call, next_arrival, space_made, space_refusal, create_queue_in, enqueue_in, dequeue_in, step}
+use Rattle.tq_model.specs.SpaceForm.{longest_body}
+use Rattle.tq_model.specs.Space.{Space as QueueSpace}
+use Rattle.tq_model.specs.Site.{Site, Volume, SpaceOnDevice, durable, space_named, volume_of}
+use Rattle.tq_model.specs.Step.{Outcome, SpaceOutcome, boot, can_boot, booted, ready, creation_refusal, unless_refused, new_volume, site_asked, with_new_device, refused, unless, log_refusal, next_arrival, unless_full, unless_refused_by, on_space, on_space_found, queue_outcome, enqueue_outcome, dequeue_outcome, space_made, space_refusal, step}
 
 -- the number after an outcome is at most the next
 abbrev takes_one : Site → Outcome → Type 0
@@ -46,24 +43,21 @@ space-next : (c : SpaceCreation) (s : Site) (v : Option Volume) → takes_one s 
 space-next c s None = omega arith
 space-next c s (Some v) = omega arith
 
-queue-next : (c : QueueCreation) (s : Site) (p : Option SpaceOnDevice) → takes_one s (create_queue_in c s p)
-queue-next c s None = omega arith
-queue-next c s (Some p) =
-    let granted : Outcome = record { site = with_space c.space (logged_with (made_length c.queue) (with_queue c.queue p.space)) s; answer = Done } in
-    unless-next (queue_refusal c p) s granted (omega arith)
+-- A call on a space takes no more numbers than its space says.
+full-numbers : (logged : ℕ) (before : QueueSpace) (c : SpaceOutcome) (full : Option Answer) → (unless_full logged before c full).numbers ≤ c.numbers
+full-numbers logged before c None = omega arith
+full-numbers logged before c (Some answer) = omega arith
 
-enqueue-next : (w : EnqueueWords) (s : Site) (p : Option SpaceOnDevice) → takes_one s (enqueue_in w s p)
-enqueue-next w s None = omega arith
-enqueue-next w s (Some p) =
-    let call = enqueue_call w s.clock in
-    unless-next (call_refusal (enqueue_refusal p.space call s.clock) p (added_length w.body)) s
-    (with_next_number (called w.space (enqueue_step p.space call s.clock (next_arrival s)) (added_length w.body) p s)) (omega arith)
+logged-numbers : (pages logged : ℕ) (before : QueueSpace) (c : SpaceOutcome) (refusal : Option Answer) → (unless_refused_by pages logged before c refusal).numbers ≤ c.numbers
+logged-numbers pages logged before c None = full-numbers logged before c (log_refusal pages logged c.size)
+logged-numbers pages logged before c (Some answer) = omega arith
 
-dequeue-next : (w : DequeueWords) (s : Site) (p : Option SpaceOnDevice) → takes_one s (dequeue_in w s p)
-dequeue-next w s None = omega arith
-dequeue-next w s (Some p) =
-    let call = dequeue_call w in
-    unless-next (call_refusal (dequeue_refusal p.space call s.clock) p gone_length) s (called w.space (dequeue_step p.space call s.clock) gone_length p s) (omega arith)
+call-next : (name : List ℕ) (call : ℕ → Arrival → QueueSpace → SpaceOutcome) → ((clock : ℕ) (next : Arrival) (space : QueueSpace) → (call clock next space).numbers ≤ 1)
+    → (s : Site) (o : Option SpaceOnDevice) → takes_one s (on_space_found name call s o)
+call-next name call one s None = omega arith
+call-next name call one s (Some p) =
+    let c = call s.clock (next_arrival s) p.space in
+    omega (arith, logged-numbers p.pages p.logged p.space c c.refusal, one s.clock (next_arrival s) p.space)
 
 pub step-next : (s : Site) (request : Request) → (step s request).site.next ≤ s.next + 1
 step-next s Nothing = omega arith
@@ -73,10 +67,10 @@ step-next s TooLong = omega arith
 step-next s (Device (devices.Create c)) = unless_refused-next (creation_refusal c s) s _ (new_device-next c s)
 step-next s (Device (devices.List dev)) = omega arith
 step-next s (Space (spaces.Create c)) = unless-next (space_refusal c s) s _ (space-next c s (volume_of s c.dev))
-step-next s (Space (spaces.CreateQueue c)) = queue-next c s (space_named c.space s)
+step-next s (Space (spaces.CreateQueue c)) = call-next c.space (queue_outcome c.queue) (λ clock next space. omega arith) s (space_named c.space s)
 step-next s (Call (calls.Enqueue session w)) =
-    elim (nat_lt longest_body (length w.body)) as (λ b. takes_one s (if b then refused s (Invalid (length w.body)) else enqueue_in w s (space_named w.space s))) [
+    elim (nat_lt longest_body (length w.body)) as (λ b. takes_one s (if b then refused s (Invalid (length w.body)) else on_space w.space (enqueue_outcome w) s)) [
       | true ↦ omega arith
-      | false ↦ enqueue-next w s (space_named w.space s)
+      | false ↦ call-next w.space (enqueue_outcome w) (λ clock next space. omega arith) s (space_named w.space s)
     ]
-step-next s (Call (calls.Dequeue session w)) = dequeue-next w s (space_named w.space s)
+step-next s (Call (calls.Dequeue session w)) = call-next w.space (dequeue_outcome w) (λ clock next space. omega arith) s (space_named w.space s)

@@ -15,7 +15,7 @@ use Rattle.tq_model.specs.declared.record.SpaceRecord.TheVariants.{Added, Gone, 
 use Rattle.tq_model.specs.Space.{is_persistent, is_adding, Entry, Queue, change_first, same_id, has_id, is_named, stands_before, with_entry, without_entry, comes_after, outlives, freed, crashed_queue, crashed}
 use Rattle.tq_model.specs.Moves.{IndexedQueue, IndexedSpace, the_queue, space_of, entry_view, queue_of, has_index, on_queue, indexed_holds, comes_before, queue_put, moved}
 use Rattle.tq_model.specs.SpaceForm.{id_in, plain_entry, default_queue, move_of, holds_arrival, holds_name}
-use Rattle.tq_model.specs.Plain.{SurvivesCrash, HasOnlySurvivors, KeepsAllAtCrash, AllIds, HasEpochs, IsBefore, IsNewer}
+use Rattle.tq_model.specs.Plain.{SurvivesCrash, HasOnlySurvivors, KeepsAllAtCrash, AllEntries, AllIds, HasEpochs, IsBefore, IsNewer}
 use Rattle.tq_model.specs.Step.{has_queue, with_queue}
 use Rattle.tq_model.proofs.Places.{map-insert, position_or_len-map}
 use Rattle.tq_model.proofs.Maps.{list_any-map}
@@ -109,27 +109,36 @@ crashed_plain t plain =
     (λ q is. ap (λ items. record q.queue { items = items }) (crashed_items q.queue.items is.items)) t.queues plain in
     ap (λ queues. record (space_of t) { queues = queues }) (map_fixed crashed_queue (map the_queue t.queues) (All-map (λ queue. crashed_queue queue ≡ queue) the_queue t.queues same))
 
--- ---- identifiers
+-- ---- entries and identifiers
 
--- What holds of all identifiers holds after each record, where it holds of the one that comes in.
+-- What holds of all entries holds after each record, where it holds of the one that comes in.
+pub entries_added : (P : Entry → Type 0) (t : IndexedSpace) (queue : ℕ) (arrival : Arrival) (body : List ℕ) → P (entry_view (plain_entry queue arrival (id_in t arrival) body))
+    → AllEntries P t → AllEntries P (moved (move_of t (Added queue arrival body)) t)
+entries_added P t queue arrival body here all =
+    let item = entry_view (plain_entry queue arrival (id_in t arrival) body) in
+    All-change_first (λ (q : IndexedQueue). All P q.queue.items) (has_index queue) (on_queue (with_entry item))
+    (λ q is. All-insert P q.queue.items (position_or_len (stands_before q.queue.order item) q.queue.items) item here is)
+    t.queues all
+
+pub entries_gone : (P : Entry → Type 0) (t : IndexedSpace) (arrival : Arrival) → AllEntries P t → AllEntries P (moved (move_of t (Gone arrival)) t)
+entries_gone P t arrival all =
+    let id = id_in t arrival in
+    All-change_first (λ (q : IndexedQueue). All P q.queue.items) (indexed_holds id) (on_queue (without_entry id))
+    (λ q is. All-remove P q.queue.items (position_or_len (has_id id) q.queue.items) is)
+    t.queues all
+
+pub entries_made : (P : Entry → Type 0) (t : IndexedSpace) (index : ℕ) (name : List ℕ) → AllEntries P t → AllEntries P (moved (move_of t (QueueMade index name)) t)
+entries_made P t index name all = All-put (λ (q : IndexedQueue). All P q.queue.items) index (default_queue name) t.queues (λ q is. is) (All-nil P) all
+
 pub ids_added : (P : MsgId → Type 0) (t : IndexedSpace) (queue : ℕ) (arrival : Arrival) (body : List ℕ) → P (id_in t arrival)
     → AllIds P t → AllIds P (moved (move_of t (Added queue arrival body)) t)
-ids_added P t queue arrival body here all =
-    let item = entry_view (plain_entry queue arrival (id_in t arrival) body) in
-    All-change_first (λ (q : IndexedQueue). All (λ (x : Entry). P x.message.id) q.queue.items) (has_index queue) (on_queue (with_entry item))
-    (λ q is. All-insert (λ (x : Entry). P x.message.id) q.queue.items (position_or_len (stands_before q.queue.order item) q.queue.items) item here is)
-    t.queues all
+ids_added P t queue arrival body here all = entries_added (λ x. P x.message.id) t queue arrival body here all
 
 pub ids_gone : (P : MsgId → Type 0) (t : IndexedSpace) (arrival : Arrival) → AllIds P t → AllIds P (moved (move_of t (Gone arrival)) t)
-ids_gone P t arrival all =
-    let id = id_in t arrival in
-    All-change_first (λ (q : IndexedQueue). All (λ (x : Entry). P x.message.id) q.queue.items) (indexed_holds id) (on_queue (without_entry id))
-    (λ q is. All-remove (λ (x : Entry). P x.message.id) q.queue.items (position_or_len (has_id id) q.queue.items) is)
-    t.queues all
+ids_gone P t arrival all = entries_gone (λ x. P x.message.id) t arrival all
 
 pub ids_made : (P : MsgId → Type 0) (t : IndexedSpace) (index : ℕ) (name : List ℕ) → AllIds P t → AllIds P (moved (move_of t (QueueMade index name)) t)
-ids_made P t index name all =
-    All-put (λ (q : IndexedQueue). All (λ (x : Entry). P x.message.id) q.queue.items) index (default_queue name) t.queues (λ q is. is) (All-nil (λ (x : Entry). P x.message.id)) all
+ids_made P t index name all = entries_made (λ x. P x.message.id) t index name all
 
 pub ids_weaker : (P Q : MsgId → Type 0) → ((id : MsgId) → P id → Q id) → (t : IndexedSpace) → AllIds P t → AllIds Q t
 ids_weaker P Q follows t all =

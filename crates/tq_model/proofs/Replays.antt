@@ -11,11 +11,12 @@ use Rattle.tq_model.specs.declared.space.Shape.{Shape}
 use Rattle.tq_model.specs.declared.record.SpaceRecord.{SpaceRecord}
 use Rattle.tq_model.specs.declared.record.SpaceRecord.TheVariants.{Added, Gone, QueueMade}
 use Rattle.tq_model.specs.Space.{Entry}
-use Rattle.tq_model.specs.Moves.{IndexedQueue, IndexedSpace, space_of, has_index, moved}
+use Rattle.tq_model.specs.Reading.{is_upto}
+use Rattle.tq_model.specs.Moves.{IndexedQueue, IndexedSpace, space_of, has_index, entry_view, moved}
 use Rattle.tq_model.specs.Room.{pages_for, messages_held, pages_held}
-use Rattle.tq_model.specs.SpaceForm.{holds_arrival, can_add, can_follow, move_of, followed, followed_by, record_in, replayed, empty_space}
-use Rattle.tq_model.specs.Plain.{HasOnlySurvivors, KeepsAllAtCrash, AllIds, HasEpochs}
-use Rattle.tq_model.proofs.RecordMoves.{HasDistinctIndices, moved_plain, moved_distinct, ids_added, ids_gone, ids_made}
+use Rattle.tq_model.specs.SpaceForm.{holds_arrival, can_add, can_follow, id_in, plain_entry, move_of, followed, followed_by, record_in, replayed, empty_space}
+use Rattle.tq_model.specs.Plain.{HasOnlySurvivors, KeepsAllAtCrash, AllEntries, AllIds, HasEpochs}
+use Rattle.tq_model.proofs.RecordMoves.{HasDistinctIndices, moved_plain, moved_distinct, entries_added, entries_gone, entries_made, ids_added, ids_gone, ids_made}
 
 -- ---- one record more
 
@@ -148,6 +149,26 @@ moved_epochs epoch s (QueueMade index name) can epochs = ids_made (λ id. id.epo
 
 pub replayed_epochs : (epoch : ℕ) (ps : List (List ℕ)) (s t : IndexedSpace) → HasEpochs epoch s → replayed epoch ps s ≡ Some t → HasEpochs epoch t
 replayed_epochs epoch ps s t epochs is = replayed_keeps (HasEpochs epoch) epoch (moved_epochs epoch) ps s t is epochs
+
+-- ---- epochs of entries, in identifiers and labels
+
+-- each entry has an identifier and a label with epochs up to this one
+abbrev pub AreUpto : ℕ → IndexedSpace → Type 0
+AreUpto epoch s = AllEntries (λ item. is_upto epoch item ≡ true) s
+
+pub empty_upto : (epoch : ℕ) (shape : Shape) (site number : ℕ) → AreUpto epoch (empty_space shape site number)
+empty_upto epoch shape site number = All-nil (λ (q : IndexedQueue). All (λ (item : Entry). is_upto epoch item ≡ true) q.queue.items)
+
+added_upto : (epoch : ℕ) (s : IndexedSpace) (queue : ℕ) (arrival : Arrival) (body : List ℕ) → arrival.epoch ≤ epoch → is_upto epoch (entry_view (plain_entry queue arrival (id_in s arrival) body)) ≡ true
+added_upto epoch s queue arrival body le = ap (λ b. b && (b && true)) (le-leb arrival.epoch epoch le)
+
+moved_upto : (epoch : ℕ) (s : IndexedSpace) (r : SpaceRecord) → can_follow epoch s r ≡ true → AreUpto epoch s → AreUpto epoch (moved (move_of s r) s)
+moved_upto epoch s (Added queue arrival body) can all = entries_added (λ item. is_upto epoch item ≡ true) s queue arrival body (added_upto epoch s queue arrival body (can_add_parts epoch s queue arrival body can).upto) all
+moved_upto epoch s (Gone arrival) can all = entries_gone (λ item. is_upto epoch item ≡ true) s arrival all
+moved_upto epoch s (QueueMade index name) can all = entries_made (λ item. is_upto epoch item ≡ true) s index name all
+
+pub replayed_upto : (epoch : ℕ) (ps : List (List ℕ)) (s t : IndexedSpace) → AreUpto epoch s → replayed epoch ps s ≡ Some t → AreUpto epoch t
+replayed_upto epoch ps s t all is = replayed_keeps (AreUpto epoch) epoch (moved_upto epoch) ps s t is all
 
 -- ---- plain spaces and their indices
 

@@ -10,12 +10,9 @@ pub mod Room
 pub mod Moves
 pub mod EnqueueStep
 pub mod DequeueStep
+pub mod DeviceForm
 pub mod Names
 pub mod SpaceForm
+pub mod SpaceLog
 pub mod Plain
-pub mod Entries
-pub mod Asked
-pub mod Held
-pub mod Fields
-pub mod Tables
 pub mod Parts

@@ -19,9 +19,13 @@ pub record HasOnlySurvivors (q : IndexedQueue) : Type 0 where
 abbrev pub KeepsAllAtCrash : IndexedSpace → Type 0
 KeepsAllAtCrash s = All HasOnlySurvivors s.queues
 
+-- each entry of the space has this property
+abbrev pub AllEntries : (Entry → Type 0) → IndexedSpace → Type 0
+AllEntries P s = All (λ (q : IndexedQueue). All P q.queue.items) s.queues
+
 -- each entry of the space has an identifier with this property
 abbrev pub AllIds : (MsgId → Type 0) → IndexedSpace → Type 0
-AllIds P s = All (λ (q : IndexedQueue). All (λ (item : Entry). P item.message.id) q.queue.items) s.queues
+AllIds P s = AllEntries (λ (item : Entry). P item.message.id) s
 
 -- the epochs of all messages are up to this one
 abbrev pub HasEpochs : ℕ → IndexedSpace → Type 0

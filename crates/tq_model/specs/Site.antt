@@ -1,6 +1,6 @@
 -- The state of the serial queue machine.
-use Rattle.std.specs.Prelude.{ℕ, ◌+◌, ◌-◌, Bool, is_some, if◌then◌else◌, List, [], ◌∷◌, length, map, get_or, replicate, Option, None, option_map}
-use Rattle.std.specs.List.{find, filter_map, flat_map, sum_by}
+use Rattle.std.specs.Prelude.{ℕ, zero, suc, ◌+◌, ◌-◌, ◌==◌, ◌&&◌, not, nat_le, nat_lt, Bool, is_some, if◌then◌else◌, List, [], ◌∷◌, length, map, filter, take, get_or, replicate, Option, Some, None, option_map}
+use Rattle.std.specs.List.{find, filter_map, flat_map, list_any, sum_by}
 use Rattle.std.specs.Str.{bytes_eq}
 use Rattle.tq_model.specs.declared.answer.Identity.{Identity}
 use Rattle.tq_model.specs.declared.answer.Capacity.{Capacity}
@@ -24,6 +24,10 @@ header_clusters = 4
 -- the last ordinal of a space, which gives none
 abbrev pub last_space : ℕ
 last_space = 268435455
+
+-- the entries of a device's table, and so the most spaces of a device
+abbrev pub table_entries : ℕ
+table_entries = 16
 
 -- the most pages of a space
 abbrev pub most_pages : ℕ
@@ -55,9 +59,9 @@ volume_of s dev = get_or s.devices dev None
 abbrev pub is_created : Site → ℕ → Bool
 is_created s dev = is_some (volume_of s dev)
 
--- a table of which only the first entry may be used
-abbrev pub table_with : Option SpaceOnDevice → List (Option SpaceOnDevice)
-table_with first = first ∷ replicate 15 None
+-- the entries of a device that has no space
+abbrev pub no_entries : List (Option SpaceOnDevice)
+no_entries = replicate table_entries None
 
 -- devices that are all blank
 abbrev pub blank_site : ℕ → Site
@@ -117,9 +121,35 @@ free_clusters v = v.clusters - (header_clusters + taken_clusters v)
 abbrev pub capacity_of : Volume → Capacity
 capacity_of v = record { clusters = v.clusters; free = free_clusters v }
 
--- the lowest clusters for so many pages, on a device without spaces
-abbrev pub first_extents : ℕ → List Extent
-first_extents pages = record { first = header_clusters; count = clusters_for pages } ∷ []
+-- so many numbers, from this one on
+abbrev pub numbers_from : ℕ → ℕ → List ℕ
+numbers_from first zero = []
+numbers_from first (suc n) = first ∷ numbers_from (first + 1) n
+
+abbrev pub covers : ℕ → Extent → Bool
+covers cluster e = nat_le e.first cluster && nat_lt cluster (e.first + e.count)
+
+abbrev pub is_taken : Volume → ℕ → Bool
+is_taken v cluster = list_any (λ (p : SpaceOnDevice). list_any (covers cluster) p.extents) (spaces_on v)
+
+-- the lowest so many clusters that neither the header nor a space has
+abbrev pub lowest_free : ℕ → Volume → List ℕ
+lowest_free n v = take n (filter (λ cluster. not (is_taken v cluster)) (numbers_from header_clusters (v.clusters - header_clusters)))
+
+-- clusters in their order as extents; those that follow each other are one
+abbrev pub with_cluster : ℕ → List Extent → List Extent
+with_cluster cluster [] = record { first = cluster; count = 1 } ∷ []
+with_cluster cluster (e ∷ extents) = if cluster + 1 == e.first then record { first = cluster; count = e.count + 1 } ∷ extents else record { first = cluster; count = 1 } ∷ e ∷ extents
+
+abbrev pub as_extents : List ℕ → List Extent
+as_extents [] = []
+as_extents (cluster ∷ clusters) = with_cluster cluster (as_extents clusters)
+
+-- the entries with one space more, in the lowest that is not used
+abbrev pub entries_with : SpaceOnDevice → List (Option SpaceOnDevice) → List (Option SpaceOnDevice)
+entries_with p [] = []
+entries_with p (None ∷ entries) = Some p ∷ entries
+entries_with p (Some q ∷ entries) = Some q ∷ entries_with p entries
 
 -- What is left after a crash.
 abbrev pub durable_space : SpaceOnDevice → SpaceOnDevice

@@ -37,17 +37,17 @@ pub record RawSpace : Type 0 where
   pub error_size : ℕ
   pub error : List ℕ  -- as many bytes as its size says
 
--- the page 0 that begins at this byte
-abbrev pub raw_space : ℕ → List ℕ → RawSpace
-raw_space at image = record {
-  mark = run_at at 8 image;
-  version = number_at (at + 8) 2 image;
-  queues = number_at (at + 10) 2 image;
-  messages = number_at (at + 12) 2 image;
-  transactions = number_at (at + 14) 2 image;
-  memory = number_at (at + 16) 8 image;
-  error_size = get_or image (at + 24) 0;
-  error = run_at (at + 25) (get_or image (at + 24) 0) image;
+-- what a page 0 says
+abbrev pub raw_space : List ℕ → RawSpace
+raw_space page = record {
+  mark = run_at 0 8 page;
+  version = number_at 8 2 page;
+  queues = number_at 10 2 page;
+  messages = number_at 12 2 page;
+  transactions = number_at 14 2 page;
+  memory = number_at 16 8 page;
+  error_size = get_or page 24 0;
+  error = run_at 25 (get_or page 24 0) page;
 }
 
 abbrev pub error_name : RawSpace → Option (List ℕ)

@@ -1,8 +1,9 @@
 -- One step of the serial queue machine: a request and its answer.
-use Rattle.std.specs.Prelude.{ℕ, ◌+◌, ◌-◌, ◌*◌, ◌==◌, ◌&&◌, not, nat_lt, nat_le, Bool, true, false, is_some, if◌then◌else◌, List, [], length, set, map, Option, Some, None, unwrap_or, option_map}
+use Rattle.std.specs.Prelude.{ℕ, ◌+◌, ◌-◌, ◌*◌, ◌==◌, ◌&&◌, ◌||◌, not, nat_lt, nat_le, Bool, true, false, is_some, if◌then◌else◌, List, [], length, set, map, Option, Some, None, unwrap_or, option_map}
 use Rattle.std.specs.List.{list_any}
 use Rattle.tq_types.specs.declared.identifiers.Arrival.{Arrival}
 use Rattle.tq_model.specs.declared.answer.Identity.{Identity}
+use Rattle.tq_model.specs.declared.answer.Extent.{Extent}
 use Rattle.tq_model.specs.declared.answer.SpaceLine.{SpaceLine}
 use Rattle.tq_model.specs.declared.answer.SpacePages.{SpacePages}
 use Rattle.tq_model.specs.declared.answer.LogRoom.{LogRoom}
@@ -13,7 +14,6 @@ use Rattle.tq_model.specs.declared.answer.DeviceAnswer.TheVariants as device_ans
 use Rattle.tq_model.specs.declared.answer.SpaceAnswer.TheVariants as space_answers
 use Rattle.tq_model.specs.declared.answer.Field.{Field}
 use Rattle.tq_model.specs.declared.answer.Field.TheVariants as fields
-use Rattle.tq_model.specs.declared.calls.CallAnswer.{CallAnswer}
 use Rattle.tq_model.specs.declared.calls.Place.TheVariants.{Plain}
 use Rattle.tq_model.specs.declared.calls.EnqueueCall.{EnqueueCall}
 use Rattle.tq_model.specs.declared.calls.EnqueueWords.{EnqueueWords}
@@ -36,9 +36,9 @@ use Rattle.tq_model.specs.CallFlags.{wants_id}
 use Rattle.tq_model.specs.Space.{Space, is_named, overhead_pages, new_space, queues_with}
 use Rattle.tq_model.specs.SpaceForm.{log_bytes, added_length, gone_length, made_length, longest_body, default_queue}
 use Rattle.tq_model.specs.Moves.{queue_of}
-use Rattle.tq_model.specs.EnqueueStep.{CallOutcome, enqueue_step, enqueue_refusal}
+use Rattle.tq_model.specs.EnqueueStep.{enqueue_step, enqueue_refusal}
 use Rattle.tq_model.specs.DequeueStep.{dequeue_step, dequeue_refusal}
-use Rattle.tq_model.specs.Site.{Site, Volume, SpaceOnDevice, last_epoch, last_space, least_clusters, most_clusters, most_pages, volume_of, is_created, capacity_of, durable, space_count, space_named, with_space, spaces_on, in_doubt_count, table_with, clusters_for, free_clusters, first_extents}
+use Rattle.tq_model.specs.Site.{Site, Volume, SpaceOnDevice, last_epoch, last_space, least_clusters, most_clusters, most_pages, volume_of, is_created, capacity_of, durable, space_count, space_named, with_space, spaces_on, in_doubt_count, table_entries, no_entries, clusters_for, free_clusters, lowest_free, as_extents, entries_with}
 
 pub record Outcome : Type 0 where
   pub site : Site
@@ -70,7 +70,7 @@ abbrev pub site_asked : Creation → ℕ
 site_asked c = unwrap_or c.site 1
 
 abbrev pub new_volume : ℕ → Volume
-new_volume clusters = record { clusters = clusters; next_space = 1; entries = table_with None }
+new_volume clusters = record { clusters = clusters; next_space = 1; entries = no_entries }
 
 -- the site with that device made anew; with device 0 it begins
 abbrev pub with_new_device : Creation → Site → Site
@@ -139,9 +139,13 @@ field_refused c =
 abbrev pub pages_asked : SpaceCreation → SpacePages
 pages_asked c = record { overhead = overhead_pages (shape_asked c); pages = c.pages }
 
--- A device has no entry for a further space: for now where it has one, and where no ordinal is left.
+-- for now a device has one space at most
+abbrev pub has_its_space : Volume → Bool
+has_its_space v = nat_lt 0 (length (spaces_on v))
+
+-- A device has no entry for a further space, or no ordinal.
 abbrev pub is_table_full : Volume → Bool
-is_table_full v = if nat_lt 0 (length (spaces_on v)) then true else nat_le last_space v.next_space
+is_table_full v = if has_its_space v then true else (nat_le table_entries (length (spaces_on v)) || nat_le last_space v.next_space)
 
 -- the first reason of its device not to make a space
 abbrev pub placing_refusal : SpaceCreation → Volume → Option Answer
@@ -172,18 +176,24 @@ number_of dev ordinal = 8 * ordinal + dev
 abbrev pub site_number : Site → ℕ
 site_number s = unwrap_or (option_map (λ (i : Identity). i.site) s.identity) 0
 
-abbrev pub placed_new : SpaceCreation → ℕ → ℕ → SpaceOnDevice
-placed_new c site ordinal =
+-- a new space, by its site's number, its ordinal and its clusters
+abbrev pub placed_new : SpaceCreation → ℕ → ℕ → List Extent → SpaceOnDevice
+placed_new c site ordinal extents =
     record {
       name = c.name;
       pages = c.pages;
-      extents = first_extents c.pages;
+      extents = extents;
       logged = 0;
       space = new_space (shape_asked c) site (number_of c.dev ordinal);
     }
 
+-- the device with the space in its lowest free clusters
+abbrev pub with_space_made : SpaceCreation → ℕ → Volume → Volume
+with_space_made c site v =
+    record v { next_space = v.next_space + 1; entries = entries_with (placed_new c site v.next_space (as_extents (lowest_free (clusters_for c.pages) v))) v.entries }
+
 abbrev pub with_new_space : SpaceCreation → Site → Volume → Site
-with_new_space c s v = record s { devices = set s.devices c.dev (Some (record v { next_space = v.next_space + 1; entries = table_with (Some (placed_new c (site_number s) v.next_space)) })) }
+with_new_space c s v = record s { devices = set s.devices c.dev (Some (with_space_made c (site_number s) v)) }
 
 abbrev pub space_made : SpaceCreation → Site → Option Volume → Outcome
 space_made c s None = refused s (answers.Device device_answers.NotCreated)
@@ -199,16 +209,63 @@ create_space c s = unless (space_refusal c s) s (space_made c s (volume_of s c.d
 
 -- The log
 
-abbrev pub log_room : SpaceOnDevice → ℕ → LogRoom
-log_room p length = record { need = length + 6; free = log_bytes p.pages - p.logged }
+abbrev pub log_room : ℕ → ℕ → ℕ → LogRoom
+log_room pages logged size = record { need = size + 6; free = log_bytes pages - logged }
 
--- a payload of so many bytes does not fit
-abbrev pub log_refusal : SpaceOnDevice → ℕ → Option Answer
-log_refusal p length = if nat_lt (log_bytes p.pages) (p.logged + (length + 6)) then Some (answers.LogFull (log_room p length)) else None
+-- a payload of so many bytes does not fit in the log of a space with so many pages, of which so many bytes are taken
+abbrev pub log_refusal : ℕ → ℕ → ℕ → Option Answer
+log_refusal pages logged size = if nat_lt (log_bytes pages) (logged + (size + 6)) then Some (answers.LogFull (log_room pages logged size)) else None
 
--- a space after a change that took a payload of so many bytes
-abbrev pub logged_with : ℕ → Space → SpaceOnDevice → SpaceOnDevice
-logged_with length space p = record p { logged = p.logged + (5 + length); space = space }
+-- Calls on a space
+
+-- What a space makes of a call.
+pub record SpaceOutcome : Type 0 where
+  pub refusal : Option Answer  -- the first reason against it
+  pub answer : Answer  -- what it is answered where there is none
+  pub space : Space  -- the space afterwards; a refusal leaves what the purge of the call left
+  pub size : ℕ  -- the bytes of the payload that says the change
+  pub numbers : ℕ  -- the numbers of messages that it takes
+
+-- What a space and its log make of a call.
+pub record LoggedOutcome : Type 0 where
+  pub answer : Answer
+  pub space : Space
+  pub logged : ℕ
+  pub numbers : ℕ
+
+-- For now a change is one payload in one log; where that has no room for it, nothing is changed.
+abbrev pub unless_full : ℕ → Space → SpaceOutcome → Option Answer → LoggedOutcome
+unless_full logged before c (Some full) = record { answer = full; space = before; logged = logged; numbers = 0 }
+unless_full logged before c None = record { answer = c.answer; space = c.space; logged = logged + (5 + c.size); numbers = c.numbers }
+
+abbrev pub unless_refused_by : ℕ → ℕ → Space → SpaceOutcome → Option Answer → LoggedOutcome
+unless_refused_by pages logged before c (Some refusal) = record { answer = refusal; space = c.space; logged = logged; numbers = 0 }
+unless_refused_by pages logged before c None = unless_full logged before c (log_refusal pages logged c.size)
+
+-- of a space with so many pages, and so many bytes of its log taken
+abbrev pub through_log : ℕ → ℕ → Space → SpaceOutcome → LoggedOutcome
+through_log pages logged before c = unless_refused_by pages logged before c c.refusal
+
+-- the arrival of the next message
+abbrev pub next_arrival : Site → Arrival
+next_arrival s = record { epoch = unwrap_or (option_map (λ (i : Identity). i.epoch) s.identity) 0; number = s.next }
+
+abbrev pub take_numbers : ℕ → Site → Site
+take_numbers n s = record s { next = s.next + n }
+
+abbrev pub with_outcome : LoggedOutcome → SpaceOnDevice → SpaceOnDevice
+with_outcome o p = record p { logged = o.logged; space = o.space }
+
+abbrev pub after_call : List ℕ → LoggedOutcome → Site → Outcome
+after_call name o s = record { site = take_numbers o.numbers (with_space name (with_outcome o) s); answer = o.answer }
+
+abbrev pub on_space_found : List ℕ → (ℕ → Arrival → Space → SpaceOutcome) → Site → Option SpaceOnDevice → Outcome
+on_space_found name call s None = refused s answers.NoEntry
+on_space_found name call s (Some p) = after_call name (through_log p.pages p.logged p.space (call s.clock (next_arrival s) p.space)) s
+
+-- a call on the space of that name: what it comes to is made of the clock, the next arrival and the space
+abbrev pub on_space : List ℕ → (ℕ → Arrival → Space → SpaceOutcome) → Site → Outcome
+on_space name call s = on_space_found name call s (space_named name s)
 
 -- Queues
 
@@ -219,21 +276,29 @@ has_queue name s = list_any (is_named name) s.queues
 abbrev pub with_queue : List ℕ → Space → Space
 with_queue name s = record s { queues = queues_with (queue_of (default_queue name) []) s.queues }
 
-abbrev pub queue_refusal : QueueCreation → SpaceOnDevice → Option Answer
-queue_refusal c p =
-    if has_queue c.queue p.space then Some (answers.Space space_answers.Taken)
-    else (if nat_le p.space.limits.queues (length p.space.queues) then Some (answers.Space (space_answers.QueueFull p.space.limits.queues))
-    else log_refusal p (made_length c.queue))
+-- the first reason not to make a queue of that name
+abbrev pub queue_refusal : List ℕ → Space → Option Answer
+queue_refusal name s =
+    if has_queue name s then Some (answers.Space space_answers.Taken)
+    else (if nat_le s.limits.queues (length s.queues) then Some (answers.Space (space_answers.QueueFull s.limits.queues)) else None)
 
-abbrev pub create_queue_in : QueueCreation → Site → Option SpaceOnDevice → Outcome
-create_queue_in c s None = refused s answers.NoEntry
-create_queue_in c s (Some p) = unless (queue_refusal c p) s (record {
-  site = with_space c.space (logged_with (made_length c.queue) (with_queue c.queue p.space)) s;
-  answer = answers.Done;
-})
+-- a space that a refusal leaves as it was, or one that is changed
+abbrev pub space_unless : Option Answer → Space → Space → Space
+space_unless (Some refusal) before after = before
+space_unless None before after = after
+
+abbrev pub queue_outcome : List ℕ → ℕ → Arrival → Space → SpaceOutcome
+queue_outcome name clock next s =
+    record {
+      refusal = queue_refusal name s;
+      answer = answers.Done;
+      space = space_unless (queue_refusal name s) s (with_queue name s);
+      size = made_length name;
+      numbers = 0;
+    }
 
 abbrev pub create_queue : QueueCreation → Site → Outcome
-create_queue c s = create_queue_in c s (space_named c.space s)
+create_queue c s = on_space c.space (queue_outcome c.queue) s
 
 abbrev pub space_step : Site → SpaceRequest → Outcome
 space_step s (space_requests.Create c) = create_space c s
@@ -264,39 +329,35 @@ enqueue_call w clock =
 abbrev pub dequeue_call : DequeueWords → DequeueCall
 dequeue_call w = record { space = w.space; queue = w.queue; notran = w.notran; peek = false; id = None; corr = None; asked = w.flags }
 
--- the arrival of the next message
-abbrev pub next_arrival : Site → Arrival
-next_arrival s = record { epoch = unwrap_or (option_map (λ (i : Identity). i.epoch) s.identity) 0; number = s.next }
-
--- A call on a space: refused by the space, refused by its log, or granted, where the site may take one number more.
-abbrev pub call_refusal : Option CallAnswer → SpaceOnDevice → ℕ → Option Answer
-call_refusal (Some refusal) p length = Some (answers.Call refusal)
-call_refusal None p length = log_refusal p length
-
-abbrev pub called : List ℕ → CallOutcome → ℕ → SpaceOnDevice → Site → Outcome
-called name outcome length p s = record { site = with_space name (logged_with length outcome.space) s; answer = answers.Call outcome.answer }
-
-abbrev pub with_next_number : Outcome → Outcome
-with_next_number o = record o { site = record o.site { next = o.site.next + 1 } }
-
-abbrev pub enqueue_in : EnqueueWords → Site → Option SpaceOnDevice → Outcome
-enqueue_in w s None = refused s answers.NoEntry
-enqueue_in w s (Some p) =
-    let call = enqueue_call w s.clock in
-    unless (call_refusal (enqueue_refusal p.space call s.clock) p (added_length w.body)) s
-    (with_next_number (called w.space (enqueue_step p.space call s.clock (next_arrival s)) (added_length w.body) p s))
+abbrev pub enqueue_outcome : EnqueueWords → ℕ → Arrival → Space → SpaceOutcome
+enqueue_outcome w clock next s =
+    let call = enqueue_call w clock in
+    let step = enqueue_step s call clock next in
+    record {
+      refusal = option_map answers.Call (enqueue_refusal s call clock);
+      answer = answers.Call step.answer;
+      space = step.space;
+      size = added_length w.body;
+      numbers = 1;
+    }
 
 abbrev pub enqueue : EnqueueWords → Site → Outcome
-enqueue w s = if nat_lt longest_body (length w.body) then refused s (answers.Invalid (length w.body)) else enqueue_in w s (space_named w.space s)
+enqueue w s = if nat_lt longest_body (length w.body) then refused s (answers.Invalid (length w.body)) else on_space w.space (enqueue_outcome w) s
 
-abbrev pub dequeue_in : DequeueWords → Site → Option SpaceOnDevice → Outcome
-dequeue_in w s None = refused s answers.NoEntry
-dequeue_in w s (Some p) =
+abbrev pub dequeue_outcome : DequeueWords → ℕ → Arrival → Space → SpaceOutcome
+dequeue_outcome w clock next s =
     let call = dequeue_call w in
-    unless (call_refusal (dequeue_refusal p.space call s.clock) p gone_length) s (called w.space (dequeue_step p.space call s.clock) gone_length p s)
+    let step = dequeue_step s call clock in
+    record {
+      refusal = option_map answers.Call (dequeue_refusal s call clock);
+      answer = answers.Call step.answer;
+      space = step.space;
+      size = gone_length;
+      numbers = 0;
+    }
 
 abbrev pub dequeue : DequeueWords → Site → Outcome
-dequeue w s = dequeue_in w s (space_named w.space s)
+dequeue w s = on_space w.space (dequeue_outcome w) s
 
 abbrev pub call_step : Site → CallRequest → Outcome
 call_step s (call_requests.Enqueue session w) = enqueue w s

@@ -1,12 +1,11 @@
-//! The serial queue machine: its values, its steps and its texts, as definitions that every other
-//! crate cites, and `Machine`, the slow plain program that computes them.
+//! What the program is to do, as definitions that every other crate cites: the grammar of lines, the
+//! steps of the serial queue machine, the texts of answers, what the bytes of devices stand for, and
+//! runs in which devices fail. Beside them stand the types that they speak of, and no algorithm.
 #![tactic(auto)]
 
 mod answer;
 mod calls;
-mod entries;
 mod grammar;
-mod machine;
 mod names;
 mod record;
 mod request;
@@ -22,7 +21,6 @@ pub use calls::{
     EnqueueWords, Flag, Flags, Place,
 };
 pub use grammar::{Key, Kind, Value, Verb};
-pub use machine::Machine;
 pub use names::name_in;
 pub use record::SpaceRecord;
 pub use request::{

@@ -1,9 +1,12 @@
-ghost use Rattle.std.specs.Prelude.{◌≡◌, ◌<◌, ◌++◌, false, OnOk};
+//! Bodies as texts.
+
+ghost use Rattle.std.specs.Prelude.{◌≡◌, ◌<◌, ◌≤◌, ◌++◌, false, length, IfOk, OnOk};
 ghost use Rattle.std.specs.Fmt.{digit_glyph};
 ghost use Rattle.std.specs.List.{flat_map};
 ghost use Rattle.tq_model.specs.Text.{byte_text, body_text};
 
 use std::alloc::AllocError;
+use tq_types::plain_run;
 
 /// The hexadecimal digit of this value, in lower case.
 fn hexadecimal_digit(value: u8) -> u8
@@ -34,14 +37,31 @@ pub fn push_byte(text: &mut Vec<u8>, byte: u8) -> Result<(), AllocError>
     Ok(())
 }
 
+/// Appends the bytes that stand in a text as themselves, up to the first that does not, and gives
+/// those behind them.
+#[tactic(auto, using(tq_types::proofs::TextRuns::run_within))]
+fn push_run<'a>(text: &mut Vec<u8>, bytes: &'a [u8]) -> Result<&'a [u8], AllocError>
+    ensures text { IfOk result (λ rest. text.new.items ++ flat_map byte_text rest.now ≡ text.old.items ++ flat_map byte_text bytes.now) }
+    ensures shorter { IfOk result (λ rest. length rest.now ≤ length bytes.now) }
+{
+    let (run, rest) = bytes.split_at(plain_run(bytes));
+    text.extend_from_slice(run)?;
+    Ok(rest)
+}
+
 /// Appends bytes as they stand in a text.
 pub fn push_bytes(text: &mut Vec<u8>, bytes: &[u8]) -> Result<(), AllocError>
     ensures { OnOk result (text.new.items ≡ text.old.items ++ flat_map byte_text bytes.now) }
 {
-    for byte in bytes {
+    let mut rest = bytes;
+    loop {
+        rest = push_run(text, rest)?;
+        let [byte, behind @ ..] = rest else {
+            return Ok(());
+        };
         push_byte(text, *byte)?;
+        rest = behind;
     }
-    Ok(())
 }
 
 /// Appends a body between quotes.

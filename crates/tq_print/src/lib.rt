@@ -1,4 +1,6 @@
-//! The bytes of answers, exact against the definition of a line's text.
+//! The bytes of answers.
+//!
+//! The layer above uses `answer`, which is exact against the definition of a line's text.
 #![tactic(auto)]
 
 mod bodies;

@@ -64,7 +64,8 @@ pub fn push_space_lines(text: &mut Vec<u8>, lines: &[SpaceLine]) -> Result<(), A
 
 /// Appends what is said of a device: its clusters, and its spaces with a line each.
 pub fn push_listing(text: &mut Vec<u8>, listing: &Listing) -> Result<(), AllocError>
-    ensures { OnOk result (text.new.items ≡ text.old.items ++ capacity_text listing.now.capacity ++ named (codes " spaces=") (length listing.now.spaces) ++ flat_map space_line_text listing.now.spaces) }
+    ensures { OnOk result (text.new.items ≡ text.old.items ++ capacity_text listing.now.capacity ++ named (codes " spaces=")
+        (length listing.now.spaces) ++ flat_map space_line_text listing.now.spaces) }
 {
     let lines = listing.spaces.as_slice();
     push_capacity(text, listing.capacity)?;

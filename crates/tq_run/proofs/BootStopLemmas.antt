@@ -17,8 +17,8 @@ use Rattle.tq_device.specs.declared.content.NamedSpace.{NamedSpace}
 use Rattle.tq_spacefile.specs.declared.file.SpaceFile.{SpaceFile}
 use Rattle.tq_spacefile.specs.File.{HasSpace, held_in, logged_in}
 use Rattle.tq_spacefile.proofs.Files.{file_kept, file_later, file_epochs}
-use Rattle.tq_run.specs.declared.manager.Manager.{Manager}
-use Rattle.tq_run.specs.Manager.{site_at, placed_in, IsBooted, ImageMatches, IsFileAt, IsFileOn, IsLoaded, loaded_site}
+use Rattle.tq_run.specs.declared.site.Manager.{Manager}
+use Rattle.tq_run.specs.Manager.{site_at, placed_in, IsBooted, IsContentOn, IsFileAt, IsFileOn, IsLoaded, loaded_site}
 use Rattle.tq_run.specs.Stops.{HasSite, IsFoundOrBooted, IsOldOrBooted, HasNoNewImage}
 use Rattle.tq_run.proofs.RunDeviceLemmas.{same_found}
 use Rattle.tq_run.proofs.FoundLemmas.{durable_at, image_at, image_bare, loaded_found, part_of_stands}
@@ -29,7 +29,7 @@ some_same a b e = cc
 
 -- an image that is what is read
 pub read_stands : (images : ℕ → List ℕ) (s : Site) (image : List ℕ) → site_found 1 images ≡ Some s → image ≡ images 0 → HasSite s image
-read_stands images s image is same = same_found (λ d. image) images same ∙ is ∙ ap (λ (x : Site). Some x) (sym (found_durable images s is))
+read_stands images s image is same = same_found (λ d. image) images same ∙ is ∙ ap (λ (x : Site). Some x) (sym (found_durable 1 images s is))
 
 -- while a settled device is read
 pub only_looking : (s : Site) (a b : View) → IsSettled 0 a → site_found 1 a.reads ≡ Some s → Within 0 IsSameImage IsAny a b → Within 0 IsAnyStep (IsFoundOrBooted s) a b
@@ -84,11 +84,11 @@ newer_at d (Some n) None image on = absurd on
 newer_at d (Some n) (Some f) image on = record { place = on.0; file = file_later f d.epoch (d.epoch + 1) image (omega arith) on.1; newer = newer_after_boot d.epoch (d.epoch + 1) (held_in f) (omega arith) (file_epochs f d.epoch image on.1) }
 
 -- what the manager holds after the epoch was raised
-pub raised_on : (d : DeviceContent) (file : Option SpaceFile) (old new : List ℕ) → IsSameButJournal old new → HasContent (raised d) new → IsLoaded d file old → ImageMatches (record { content = Some (raised d); file = file; next = 0 }) new
+pub raised_on : (d : DeviceContent) (file : Option SpaceFile) (old new : List ℕ) → IsSameButJournal old new → HasContent (raised d) new → IsLoaded d file old → IsContentOn (Some (raised d)) file 0 new
 raised_on d file old new same stands loaded = record { stands = stands; space = newer_at d d.named file new (kept_at d d.named file old new same loaded.space) }
 
 -- an epoch that is not the last one can be raised
-can_raise : (d : DeviceContent) (file : Option SpaceFile) → d.epoch < 4294967295 → can_boot (loaded_site d file) ≡ true
+pub can_raise : (d : DeviceContent) (file : Option SpaceFile) → d.epoch < 4294967295 → can_boot (loaded_site d file) ≡ true
 can_raise d file below = below_last d.epoch below
   where
     below_last : (n : ℕ) → n < 4294967295 → nat_lt n 4294967295 ≡ true
@@ -120,7 +120,7 @@ module _ (sites : List Site) (found : Site) (a b : View) (stand : (image : List 
 
   -- an image of what is found stands for each site for which what is read does
   found_again : site_found 1 a.reads ≡ Some found → (c : List ℕ) → HasSite found c → Any (λ s. HasSite s (a.reads 0)) sites → Any (λ s. HasSite s c) sites
-  found_again is c stands (k, s, below, at, read) = (k, s, below, at, stands ∙ ap (λ (x : Site). Some x) (found_durable a.reads found is) ∙ sym is ∙ read)
+  found_again is c stands (k, s, below, at, read) = (k, s, below, at, stands ∙ ap (λ (x : Site). Some x) (found_durable 1 a.reads found is) ∙ sym is ∙ read)
 
   -- and then it is settled, and booted
   pub looking_booting : (c : View) → site_found 1 a.reads ≡ Some found → HasNoNewImage a b → b.reads 0 ≡ a.reads 0 → IsSettled 0 b

@@ -12,12 +12,10 @@ use Rattle.tq_model.specs.Reading.{site_found}
 use Rattle.tq_model.specs.MachineWithFaults.{Condition, Up, Down, Turn, boot_turn, reboot_turn, HaveSite, turn_at}
 use Rattle.tq_model.proofs.Images.{found_durable}
 use Rattle.tq_device.specs.Content.{IsAnyStep}
-use Rattle.tq_run.specs.declared.manager.Manager.{Manager}
+use Rattle.tq_run.specs.declared.site.Manager.{Manager}
 use Rattle.tq_run.specs.declared.state.State.{State}
 use Rattle.tq_run.specs.declared.state.State.TheVariants as states
-use Rattle.tq_run.specs.declared.status.RunEnd.{RunEnd}
-use Rattle.tq_run.specs.declared.status.RunEnd.TheVariants as stops
-use Rattle.tq_run.specs.Counts.{Rises, IsQuiet, StopCounts}
+use Rattle.tq_run.specs.Counts.{Rises}
 use Rattle.tq_run.specs.Manager.{site_of, is_bootable, IsBooted}
 use Rattle.tq_run.specs.Stops.{HasSite, IsOldOrBooted, ImagesMatch}
 use Rattle.tq_run.specs.Turns.{HasCondition, turn_between, IsBeforeOrAfter}
@@ -112,7 +110,7 @@ module _ (images : ℕ → List ℕ) (found s : Site) (is : site_found 1 images 
   same = some_same found (durable s) (sym is ∙ stands)
 
   same_durable : durable found ≡ durable s
-  same_durable = found_durable images found is ∙ same
+  same_durable = found_durable 1 images found is ∙ same
 
   same_raisable : can_boot found ≡ can_boot s
   same_raisable = ap can_boot same
@@ -162,15 +160,6 @@ rose_in (Down sites) o v are = are
 
 -- A boot
 
--- the ways in which one ends without a site that are none of the device
-pub other_stop : (e : RunEnd) (old new : View) → e ≢ stops.Device → ((e ≢ stops.Damaged) → (e ≢ stops.Memory) → e ≡ stops.Device) → StopCounts e old new → IsQuiet old new
-other_stop stops.Damaged old new not three counts = counts
-other_stop stops.Memory old new not three counts = counts
-other_stop stops.TooMuchInput old new not three counts = counts
-other_stop stops.Device old new not three counts = absurd (not refl)
-other_stop stops.Input old new not three counts = absurd (not (three (λ e. cc) (λ e. cc)))
-other_stop stops.Output old new not three counts = absurd (not (three (λ e. cc) (λ e. cc)))
-
 module _ {tells : Told} (t : TellsAll tells) (old new : View) (lawful : IsLawful tells old) (state : State) where
   module _ (c : Condition) (is : StateMatches state c old) where
     read_is : HasCondition c (old.reads 0)
@@ -203,7 +192,7 @@ module _ {tells : Told} (t : TellsAll tells) (old new : View) (lawful : IsLawful
     damaged_in : is_bootable (site_found 1 old.reads) ≡ false → ((image : List ℕ) → new.may_leave 0 image → image ≡ old.reads 0) → StateMatches states.Down (turn_between false old.reads c Boot).condition new
     damaged_in lost settled =
         subst (λ (u : Turn). StateMatches states.Down u.condition new) (sym (is_damaged lost))
-        (λ image may. any_first (HaveSite 1 (λ d. image)) (durable found) [] (read_stands old.reads (durable found) image (is_found ∙ ap (λ (s : Site). Some s) (sym (found_durable old.reads found is_found))) (settled image may)))
+        (λ image may. any_first (HaveSite 1 (λ d. image)) (durable found) [] (read_stands old.reads (durable found) image (is_found ∙ ap (λ (s : Site). Some s) (sym (found_durable 1 old.reads found is_found))) (settled image may)))
 
     failed_image : (image : List ℕ) → IsOldOrBooted (sites_in c) found image → HasCondition (turn_between true old.reads c Boot).condition image
     failed_image image has = rose_image c old.reads found (site_found 1 old.reads) image is_found read_is has
@@ -226,27 +215,27 @@ module _ {tells : Told} (t : TellsAll tells) (old new : View) (lawful : IsLawful
         (λ before. inl (stand_for c image before))
         (λ after. inr (failed_image c is image (inr after))) has) (within c is)
 
-    pub quiet_stop : IsQuiet old new → IsTurning state Boot old new
-    quiet_stop quiet = record { failed = false; cause = no_cause old.faults new.faults quiet.device; within = quiet_within }
+    pub quiet_stop : new.faults ≡ old.faults → IsTurning state Boot old new
+    quiet_stop quiet = record { failed = false; cause = no_cause old.faults new.faults quiet; within = quiet_within }
 
     pub failed_stop : Rises old.faults new.faults → IsTurning state Boot old new
     failed_stop rises = record { failed = true; cause = its_cause old.faults new.faults rises; within = failed_within }
 
     -- up again
-    pub booted_turn : IsQuiet old new → (m : Manager) → IsBooted m old new → ImagesMatch m new → HasTurned state (states.Up m) Boot (ready (site_of m)) old new
+    pub booted_turn : new.faults ≡ old.faults → (m : Manager) → IsBooted m old new → ImagesMatch m new → HasTurned state (states.Up m) Boot (ready (site_of m)) old new
     booted_turn quiet m boot on = record {
       failed = false;
-      cause = no_cause old.faults new.faults quiet.device;
+      cause = no_cause old.faults new.faults quiet;
       answer = λ c is. sym (ap (λ (u : Turn). u.answer) (is_up c is m boot));
       then = λ c is. subst (λ (u : Turn). StateMatches (states.Up m) u.condition new) (sym (is_up c is m boot)) (record { site = refl; on = on });
       within = quiet_within;
     }
 
     -- down at the last epoch
-    pub damaged_turned : IsQuiet old new → is_bootable (site_found 1 old.reads) ≡ false → ((image : List ℕ) → new.may_leave 0 image → image ≡ old.reads 0) → HasTurned state states.Down Boot (answers.Damaged 0) old new
+    pub damaged_turned : new.faults ≡ old.faults → is_bootable (site_found 1 old.reads) ≡ false → ((image : List ℕ) → new.may_leave 0 image → image ≡ old.reads 0) → HasTurned state states.Down Boot (answers.Damaged 0) old new
     damaged_turned quiet lost settled = record {
       failed = false;
-      cause = no_cause old.faults new.faults quiet.device;
+      cause = no_cause old.faults new.faults quiet;
       answer = λ c is. sym (ap (λ (u : Turn). u.answer) (is_damaged c is lost));
       then = λ c is. damaged_in c is lost settled;
       within = quiet_within;

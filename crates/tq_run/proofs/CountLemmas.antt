@@ -1,13 +1,15 @@
 -- How the counts of the parts of a run add up.
 use Rattle.std.proofs.Common.{◌≡◌, ◌≢◌, ℕ, Result, Ok, Err, refl, sym, ◌∙◌, ap, subst, IfOk, OnOk, OnErr, arith}
 use Rattle.std.specs.Result.{MatchResult, IsErrAnd}
-use Rattle.tq_host.specs.View.{View}
+use Rattle.tq_host.specs.View.{View, Streams}
 use Rattle.tq_host.specs.Calls.{HasCauseOf}
 use Rattle.tq_run.specs.declared.status.Status.TheVariants as status
 use Rattle.tq_run.specs.declared.status.RunEnd.{RunEnd}
 use Rattle.tq_run.specs.declared.status.RunEnd.TheVariants.{Damaged, Memory, Input, Output, Device, TooMuchInput}
 use Rattle.tq_run.specs.Ending.{status_for}
-use Rattle.tq_run.specs.Counts.{Rises, IsQuiet, StopCounts, HasCounts, IsCalm, RunStopCounts, HasRunCounts}
+use Rattle.tq_run.specs.declared.status.BootFailure.{BootFailure}
+use Rattle.tq_run.specs.declared.status.BootFailure.TheVariants as boots
+use Rattle.tq_run.specs.Counts.{Rises, IsQuiet, StopCounts, HasCounts, IsCalm, RunStopCounts, HasRunCounts, CountsBoot, end_after_boot}
 
 pub quiet : (v : View) → IsQuiet v v
 quiet v = record { device = refl; input = refl; output = refl }
@@ -32,6 +34,10 @@ counts_on (Err stop) a b c first second = stop_on stop a b c first second
 pub on_ok : {T E : Type 0} (r : Result T E) (G : Type 0) → ((x : T) → r ≡ Ok x → G) → OnOk r G
 on_ok (Ok x) G f = f x refl
 on_ok (Err e) G f = tt
+
+pub if_ok : {T E : Type 0} (r : Result T E) (P : T → Type 0) → ((x : T) → r ≡ Ok x → P x) → IfOk r P
+if_ok (Ok x) P f = f x refl
+if_ok (Err e) P f = tt
 
 pub of_ok : {T E : Type 0} (r : Result T E) (x : T) (A : Type 0) → r ≡ Ok x → OnOk r A → A
 of_ok {T} {E} r x A e h = subst (λ (q : Result T E). OnOk q A) e h
@@ -117,3 +123,27 @@ stop_counts Output a b is = record { device = omega (arith, is.device); input = 
 pub run_counts : {T : Type 0} (r : Result T RunEnd) (a b : View) → HasCounts r a b → HasRunCounts r a b
 run_counts (Ok x) a b is = quiet_calm a b is
 run_counts (Err stop) a b is = stop_counts stop a b is
+
+-- Counts of a boot, which leaves the streams alone
+
+pub boot_quiet : (a b : View) → b.streams ≡ a.streams → b.faults ≡ a.faults → IsQuiet a b
+boot_quiet a b streams same = record { device = same; input = ap (λ (s : Streams). s.input_faults) streams; output = ap (λ (s : Streams). s.output_faults) streams }
+
+pub boot_counts : (T : Type 0) (e : BootFailure) (a b : View) → b.streams ≡ a.streams → CountsBoot {T = T} (Err e) a.faults b.faults → StopCounts (end_after_boot e) a b
+boot_counts T boots.Damaged a b streams counts = boot_quiet a b streams counts
+boot_counts T boots.Memory a b streams counts = boot_quiet a b streams counts
+boot_counts T boots.Device a b streams counts = record { device = counts; input = ap (λ (s : Streams). s.input_faults) streams; output = ap (λ (s : Streams). s.output_faults) streams }
+
+-- ---- Errors that are made of others
+
+pub err_is : {T E : Type 0} (r : Result T E) (x : E) → IsErrAnd r (λ e. e ≡ x) → r ≡ Err x
+err_is (Ok v) x is = absurd is
+err_is (Err e) x is = ap (λ (y : _). Err y) is
+
+pub same_Err : {T E : Type 0} (x y : E) → ◌≡◌ {A = Result T E} (Err x) (Err y) → x ≡ y
+same_Err x y is = cc
+
+pub damaged_boot : (e : BootFailure) → end_after_boot e ≡ Damaged → e ≡ boots.Damaged
+damaged_boot boots.Damaged is = refl
+damaged_boot boots.Memory is = absurd (cc)
+damaged_boot boots.Device is = absurd (cc)

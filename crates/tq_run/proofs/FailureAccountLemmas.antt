@@ -2,7 +2,7 @@
 use Rattle.std.proofs.Common.{◌≡◌, ◌<◌, ◌≤◌, ℕ, zero, suc, ◌+◌, ◌-◌, List, [], ◌∷◌, ◌++◌, Bool, true, false, cond, refl, sym, ◌∙◌, ap, subst, arith, length, get_or}
 use Rattle.std.specs.Prelude.{map, nat_lt, ◌==◌}
 use Rattle.std.proofs.lemmas.Bool.Decides.{nat_tests}
-use Rattle.tq_host.specs.View.{Stamp, last}
+use Rattle.tq_host.specs.View.{Stamp, last_count}
 use Rattle.tq_host.specs.Calls.{Rose, HasCauseOf}
 use Rattle.tq_model.specs.MachineWithFaults.{Trace, Failures, count_before, count_at, rose_at}
 use Rattle.tq_run.specs.Failures.{AreFailures}
@@ -46,7 +46,7 @@ told_rose : (before now : ℕ) → nat_lt before now ≡ true → Rose before no
 told_rose before now e = let lt : before < now = grind (arith, nat_tests, e) in omega (arith, lt)
 
 -- below its last value a count tells whether the step failed
-choice_told : (b : Bool) (before now : ℕ) → HasCauseOf (b ≡ true) before now → now < last → b ≡ nat_lt before now
+choice_told : (b : Bool) (before now : ℕ) → HasCauseOf (b ≡ true) before now → now < last_count → b ≡ nat_lt before now
 choice_told true before now cause lt = let rose : Rose before now = cause.rose refl in let more : before < now = omega (arith, rose, lt) in sym (told_more before now more)
 choice_told false before now cause lt = of_bool (nat_lt before now) refl
   where
@@ -97,7 +97,7 @@ module _ (failed : Failures) (n : ℕ) (b : Bool) (trace : Trace) where
 record Tells (trace : Trace) (b : Bool) (at : ℕ) : Type 0 where
   rose : b ≡ true → Rose (count_before trace at) (count_at trace at)
   only : count_before trace at < count_at trace at → b ≡ true
-  told : trace.after < last → b ≡ rose_at trace at
+  told : trace.after < last_count → b ≡ rose_at trace at
 
 by_count : (trace : Trace) (at : ℕ) → Tells trace (rose_at trace at) at
 by_count trace at = record { rose = told_rose (count_before trace at) (count_at trace at); only = told_more (count_before trace at) (count_at trace at); told = λ lt. refl }

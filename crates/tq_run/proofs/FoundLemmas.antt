@@ -6,20 +6,21 @@ use Rattle.tq_host.specs.View.{View}
 use Rattle.tq_model.specs.Space.{Space}
 use Rattle.tq_model.specs.Moves.{IndexedSpace}
 use Rattle.tq_model.specs.Plain.{KeepsAllAtCrash}
-use Rattle.tq_model.specs.Parts.{IsPart}
+use Rattle.tq_model.specs.Parts.{IsPart, table_with}
 use Rattle.tq_model.specs.Site.{Site, durable}
 use Rattle.tq_model.specs.Reading.{Reading, Blank, Holds, Damaged, reading, site_read, site_found, placed_as, content_with}
 use Rattle.tq_model.specs.Reading as reads
 use Rattle.tq_model.specs.MachineWithFaults.{HaveSite}
-use Rattle.tq_model.proofs.Images.{short_reading, damaged_parts, bare_reading, space_reading, space_damage, found_blank, found_holds, found_damaged}
+use Rattle.tq_model.proofs.Images.{short_reading, damaged_parts, space_damage, found_blank, found_bare, found_space, found_damaged}
 use Rattle.tq_model.proofs.RecordMoves.{crashed_plain}
 use Rattle.tq_device.specs.declared.content.DeviceContent.{DeviceContent}
 use Rattle.tq_device.specs.declared.content.NamedSpace.{NamedSpace}
-use Rattle.tq_device.specs.Content.{HasContent, part_of, named_view}
+use Rattle.tq_device.specs.Content.{HasContent, part_of, named_view, journal_view}
 use Rattle.tq_spacefile.specs.declared.file.SpaceFile.{SpaceFile}
 use Rattle.tq_spacefile.specs.File.{HasSpace, held_in, logged_in, has_space}
-use Rattle.tq_run.specs.declared.manager.Manager.{Manager}
-use Rattle.tq_run.specs.Manager.{site_of, site_with, site_at, placed_at, placed_in, place_of, ImageMatches, IsContentOn, IsFileOn, IsFileAt, IsLoaded, loaded_site, is_bootable, IsBooted, IsRaised}
+use Rattle.tq_run.specs.declared.site.Manager.{Manager}
+use Rattle.tq_run.specs.Manager.{site_of, site_with, site_at, placed_at, placed_in, ImageMatches, IsContentOn, IsFileOn, IsFileAt, IsLoaded, loaded_site, is_bootable, IsBooted, IsRaised}
+use Rattle.tq_run.specs.Together.{place_of}
 use Rattle.tq_run.specs.Stops.{HasSite}
 
 pub part_of_stands : (d : DeviceContent) (image : List ℕ) → HasContent d image → IsPart (part_of d) image
@@ -28,7 +29,7 @@ part_of_stands d image is = record { size = is.size; tests = is.tests; part = is
 -- A device without a space
 
 pub bare_found : (d : DeviceContent) (images : ℕ → List ℕ) → IsPart (part_of d) (images 0) → d.named ≡ None → site_found 1 images ≡ Some (site_at d None 0)
-bare_found d images is none = found_holds images (content_with (part_of d) None) (bare_reading (part_of d) (images 0) is (ap (option_map named_view) none))
+bare_found d images is none = found_bare (part_of d) images is (ap (λ (o : Option NamedSpace). table_with (option_map named_view o)) none)
 
 -- A device with a space
 
@@ -36,7 +37,7 @@ pub space_found : (d : DeviceContent) (n : NamedSpace) (held : IndexedSpace) (lo
     → site_found 1 images ≡ Some (site_at d (Some (placed_at n logged held)) 0)
 space_found d n held logged images is named has =
     let r : reads.Replayed = record { payloads = has.payloads; space = held } in
-    found_holds images (content_with (part_of d) (Some (placed_as (named_view n) r))) (space_reading (part_of d) (named_view n) r (images 0) is (ap (option_map named_view) named) has.page has.reads)
+    found_space (part_of d) (named_view n) (journal_view d.epoch) r images is (ap (λ (o : Option NamedSpace). table_with (option_map named_view o)) named) refl has.page has.reads
     ∙ ap (λ k. Some (site_at d (Some (placed_at n k held)) 0)) (sym has.ends)
 
 -- a crash leaves the site of a plain space but for the number of the next message
@@ -106,12 +107,12 @@ pub damaged_device : (images : ℕ → List ℕ) → (131072 ≤ length (images 
 damaged_device images is = found_damaged images (damaged_parts (images 0) is.0 is.1)
 
 pub damaged_space : (d : DeviceContent) (n : NamedSpace) (images : ℕ → List ℕ) → HasContent d (images 0) → d.named ≡ Some n → has_space (place_of d n) d.epoch (images 0) ≡ false → site_found 1 images ≡ None
-damaged_space d n images is named none = found_damaged images (space_damage (part_of d) (named_view n) (images 0) (part_of_stands d (images 0) is) (ap (option_map named_view) named) none)
+damaged_space d n images is named none = found_damaged images (space_damage (part_of d) (named_view n) (images 0) (part_of_stands d (images 0) is) (ap (λ (o : Option NamedSpace). table_with (option_map named_view o)) named) none)
 
 -- Boots
 
-pub booted_blank : (old new : View) → length (old.reads 0) < 131072 → new.reads 0 ≡ old.reads 0 → IsBooted (record { content = None; file = None; next = 0 }) old new
-booted_blank old new short same = record { found = site_with None None 0; stood = blank_found old.reads short; raisable = refl; site = refl; stands = subst (λ (l : List ℕ). length l < 131072) (sym same) short }
+pub booted_blank : (m : Manager) (old new : View) → site_of m ≡ site_with None None 0 → (length (new.reads 0) < 131072 → ImageMatches m (new.reads 0)) → length (old.reads 0) < 131072 → new.reads 0 ≡ old.reads 0 → IsBooted m old new
+booted_blank m old new site on short same = record { found = site_with None None 0; stood = blank_found old.reads short; raisable = refl; site = site; stands = on (subst (λ (l : List ℕ). length l < 131072) (sym same) short) }
 
 below_last : (n : ℕ) → n < 4294967295 → nat_lt n 4294967295 ≡ true
 below_last n lt = grind (arith, nat_tests)

@@ -7,11 +7,13 @@ pub mod LoadLemmas
 pub mod SpaceCreationLemmas
 pub mod BootStopLemmas
 pub mod BootTurnLemmas
+pub mod PlanLemmas
 pub mod CallLemmas
 pub mod CallStepLemmas
 pub mod FailureAccountLemmas
 pub mod TurnLemmas
 pub mod RespondLemmas
+pub mod LeftAloneLemmas
 pub mod LineByLineLemmas
 pub mod Line0Lemmas
 pub mod StatusLemmas

@@ -3,8 +3,8 @@ use Rattle.std.proofs.Common.{◌≡◌, inl, inr, ⊎_elim, ◌<◌, ℕ, zero,
 use Rattle.std.specs.Prelude.{replicate, All, Any}
 use Rattle.std.proofs.lemmas.List.{append-nil, append_cancel_left}
 use Rattle.std.specs.List.{slice_index_or}
-use Rattle.tq_host.specs.View.{View, Stamp, Streams, IsSettled}
-use Rattle.tq_host.specs.Calls.{HasCause, HasCauseOf, IsDeviceCall, IsStill, IsGiven, IsGiving}
+use Rattle.tq_host.specs.View.{Told, View, Stamp, Streams, IsSettled, stamp_now}
+use Rattle.tq_host.specs.Calls.{HasCause, HasCauseOf, IsDeviceCall, Attaches, IsGiven, IsGiving}
 use Rattle.tq_host.specs.declared.host.Failed.{Failed}
 use Rattle.tq_host.specs.Within.{Came, Within, Ran}
 use Rattle.tq_host.proofs.Within.{weaker, in_a_row}
@@ -15,7 +15,7 @@ use Rattle.tq_model.specs.Text.{line_text}
 use Rattle.tq_model.specs.Reading.{site_found}
 use Rattle.tq_model.specs.MachineWithFaults.{Up, Failures, Turn, failing_turn, boot_turn, rose_at, turn_at}
 use Rattle.tq_device.specs.Content.{IsAnyStep}
-use Rattle.tq_run.specs.declared.manager.Manager.{Manager}
+use Rattle.tq_run.specs.declared.site.Manager.{Manager}
 use Rattle.tq_run.specs.declared.state.State.TheVariants as states
 use Rattle.tq_run.specs.declared.status.RunEnd.{RunEnd}
 use Rattle.tq_run.specs.declared.status.RunEnd.TheVariants.{Damaged, Memory, Input, Output, Device, TooMuchInput}
@@ -69,7 +69,7 @@ only_one s image any = at any.0 any.1 any.2 any.3 any.4
     at zero x below same is = subst (λ (y : Site). HasSite y image) (sym same) is
     at (suc k) x below same is = absurd (omega arith)
 
-module _ (found : Site) (a b : View) {r : Result (Unit {0}) Failed} (is : site_found 1 a.reads ≡ Some found) (attached : IsDeviceCall r a b) (same : IsStill a b) where
+module _ (found : Site) (a b : View) {tells : Told} {path : List ℕ} {r : Result (Unit {0}) Failed} (is : site_found 1 a.reads ≡ Some found) (attached : IsDeviceCall r a b) (same : Attaches tells 0 path r a b) where
   stands_then : IsSettled 0 a → (image : List ℕ) → b.may_leave 0 image → HasSite found image
   stands_then settled image may = read_stands a.reads found image is (settled image (same.may_leave 0 image may))
 
@@ -151,7 +151,7 @@ module _ (found : Site) (a b : View) {r : Result (Unit {0}) Failed} (is : site_f
       first_over settled = record {
         since = first_since;
         on = line_on (starts_answered a found) Boot t same_streams false calm_line (first_is false None found) same_after given_text;
-        added = (starts_answered a found).added ++ replicate k (record { faults = d.faults; reads = d.reads });
+        added = (starts_answered a found).added ++ replicate k (stamp_now d);
         stamps = line_stamps (starts_answered a found) Boot t same_streams false calm_line (first_is false None found) same_after given_text;
         failures = line_failures (starts_answered a found) Boot t same_streams false calm_line (first_is false None found) same_after given_text;
         ran = pictures settled;
@@ -182,9 +182,9 @@ calm_none a now none same added is = subst (λ (l : List Stamp). rose_at (trace_
 -- a part of line 0 was given
 pub calm_given : (a b d : View) (k : ℕ) (text : List ℕ) → b.streams ≡ a.streams → b.faults ≡ a.faults → d.faults ≡ b.faults → IsGiven k text b d → (added : List Stamp) → d.streams.stamps ≡ a.streams.stamps ++ added → rose_at (trace_of a d added) 0 ≡ false
 calm_given a b d k text streams faults same given added is =
-    let told = replicate k (record { faults = b.faults; reads = b.reads }) in
+    let told = replicate k (stamp_now b) in
     subst (λ (l : List Stamp). rose_at (trace_of a d l) 0 ≡ false) (append_cancel_left a.streams.stamps told added (sym (given.stamps ∙ ap (λ (s : Streams). s.stamps ++ told) streams) ∙ is))
-    (calm_stamps a d told (λ j s lt. all_same k (record { faults = b.faults; reads = b.reads }) j s lt faults) (same ∙ faults))
+    (calm_stamps a d told (λ j s lt. all_same k (stamp_now b) j s lt faults) (same ∙ faults))
   where
     all_same : (k : ℕ) (x : Stamp) (j : ℕ) (s : Stamp) → j < length (replicate k x) → x.faults ≡ a.faults → (slice_index_or (replicate k x) j s).faults ≡ a.faults
     all_same zero x j s lt e = absurd (omega arith)
@@ -195,7 +195,7 @@ calm_given a b d k text streams faults same given added is =
 pub begun_given : (a b d : View) (text : List ℕ) → 0 < length text → b.streams ≡ a.streams → b.faults ≡ a.faults → IsGiven (length text) text b d → HasBegun a d
 begun_given a b d [] some streams faults given = absurd (omega arith)
 begun_given a b d (x ∷ text) some streams faults given =
-    let at : Stamp = record { faults = b.faults; reads = b.reads } in
+    let at : Stamp = stamp_now b in
     record { first = at; rest = replicate (length text) at; stamps = given.stamps ∙ ap (λ (s : Streams). s.stamps ++ at ∷ replicate (length text) at) streams; calm = faults }
 
 -- later stamps tell nothing else of line 0

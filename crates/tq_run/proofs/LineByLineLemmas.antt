@@ -2,7 +2,7 @@
 use Rattle.std.proofs.Common.{◌≡◌, ◌≤◌, ℕ, ◌+◌, ◌-◌, List, [], ◌∷◌, ◌++◌, Some, refl, sym, ◌∙◌, ap, subst, arith, length, take, append_assoc, length-append}
 use Rattle.std.specs.Prelude.{map, replicate}
 use Rattle.std.proofs.lemmas.List.{append-nil, append_cancel_left, take-append-le}
-use Rattle.tq_host.specs.View.{View, Stamp, Picture, Streams, Told, TellsAll, IsLawful, IsSettled}
+use Rattle.tq_host.specs.View.{View, Stamp, Picture, Streams, Told, TellsAll, IsLawful, IsSettled, stamp_now}
 use Rattle.tq_host.specs.Calls.{IsGiven, IsGiving}
 use Rattle.tq_host.specs.Within.{Ran}
 use Rattle.tq_host.proofs.Running.{ran_on, ran_start, ran_weaker, each}
@@ -11,7 +11,7 @@ use Rattle.tq_model.specs.declared.request.Request.{Request}
 use Rattle.tq_model.specs.Site.{Site}
 use Rattle.tq_model.specs.Text.{line_text}
 use Rattle.tq_model.specs.Grammar.{script_lines, script_requests, line_request}
-use Rattle.tq_model.specs.Reading.{reading, combined, site_found}
+use Rattle.tq_model.specs.Reading.{reading, combined, site_in, site_found}
 use Rattle.tq_model.specs.declared.request.Request.TheVariants.{Boot}
 use Rattle.tq_model.specs.MachineWithFaults.{Condition, Up, Down, Failures, Turn, turn_at, found_at, HaveCondition}
 use Rattle.tq_run.specs.declared.state.State.{State}
@@ -57,7 +57,7 @@ module _ (o : Origin) (found : Site) (failed : Failures) (done : List Request) (
       given_line = record {
         since = line_since reached.answered r t streams turned.failed turned.cause told same given_text;
         on = line_on reached.answered r t streams turned.failed turned.cause told same given_text;
-        added = reached.answered.added ++ replicate k (record { faults = b.faults; reads = b.reads });
+        added = reached.answered.added ++ replicate k (stamp_now b);
         stamps = line_stamps reached.answered r t streams turned.failed turned.cause told same given_text;
         failures = line_failures reached.answered r t streams turned.failed turned.cause told same given_text;
         ran = pictures;
@@ -69,7 +69,7 @@ module _ (o : Origin) (found : Site) (failed : Failures) (done : List Request) (
         on = line_on reached.answered r t streams turned.failed turned.cause told same given_text;
         reached = record {
           condition = t.condition;
-          answered = line_answered reached.answered r t streams turned.failed turned.cause told same given_text (whole ∙ ap (λ (l : List ℕ). length l) is_text) (ap (λ (i : List ℕ). combined (reading 0 i ∷ [])) reads);
+          answered = line_answered reached.answered r t streams turned.failed turned.cause told same given_text (whole ∙ ap (λ (l : List ℕ). length l) is_text) (ap (λ (i : List ℕ). site_in (combined (reading 0 i ∷ []))) reads);
           is = still_in state' t.condition b d none is_in;
           some = omega (arith, length-append done (r ∷ []));
         };
@@ -219,7 +219,7 @@ pub waiting_reached : (o : Origin) (found : Site) (failed : Failures) (done : Li
     → b.faults ≡ a.faults → b.reads 0 ≡ a.reads 0 → HasReached o found failed done state b
 waiting_reached o found failed done state a b reached none output stamps faults reads = record {
   condition = reached.condition;
-  answered = still_answered reached.answered b output stamps faults (ap (λ (i : List ℕ). combined (reading 0 i ∷ [])) reads);
+  answered = still_answered reached.answered b output stamps faults (ap (λ (i : List ℕ). site_in (combined (reading 0 i ∷ []))) reads);
   is = still_in state reached.condition a b none reached.is;
   some = reached.some;
 }

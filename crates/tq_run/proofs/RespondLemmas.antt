@@ -16,16 +16,17 @@ use Rattle.tq_model.specs.Reading.{site_found}
 use Rattle.tq_model.specs.MachineWithFaults.{Condition, Up, Down, Turn, down_answer, failing_turn, steady_turn, turn_at}
 use Rattle.tq_model.proofs.Images.{found_durable}
 use Rattle.tq_device.specs.Content.{IsAnyStep}
-use Rattle.tq_run.specs.declared.manager.Manager.{Manager}
+use Rattle.tq_run.specs.declared.site.Manager.{Manager}
 use Rattle.tq_run.specs.declared.state.State.{State}
 use Rattle.tq_run.specs.declared.state.State.TheVariants as states
 use Rattle.tq_run.specs.declared.status.RunEnd.{RunEnd}
 use Rattle.tq_run.specs.declared.status.RunEnd.TheVariants.{Damaged, Memory, Input, Output, Device as Failed, TooMuchInput}
+use Rattle.tq_run.specs.Serving.{IsServed, ChangesOnce}
 use Rattle.tq_run.specs.Counts.{Rises, StopCounts}
 use Rattle.tq_run.specs.Manager.{site_of}
 use Rattle.tq_run.specs.Stops.{ImagesMatch, IsEither, HasSite, HasNoNewImage}
 use Rattle.tq_run.specs.Turns.{HasCondition, turn_between, IsBeforeOrAfter}
-use Rattle.tq_run.specs.Standing.{StateMatches, HasTurned, IsTurning}
+use Rattle.tq_run.specs.Standing.{StateMatches, StateImagesMatch, HasTurned, IsTurning}
 use Rattle.tq_run.proofs.FoundLemmas.{image_stands}
 use Rattle.tq_run.proofs.DeviceStopLemmas.{any_steps}
 
@@ -65,7 +66,7 @@ steady_pictures s r t a b is within = subst (λ (u : Turn). Within 0 IsAnyStep (
 
 -- a crash of what a crash left changes nothing
 pub twice : (s : Site) (image : List ℕ) → HasSite s image → HasSite (durable s) image
-twice s image is = is ∙ ap (λ (x : Site). Some x) (sym (found_durable (λ d. image) (durable s) is))
+twice s image is = is ∙ ap (λ (x : Site). Some x) (sym (found_durable 1 (λ d. image) (durable s) is))
 
 -- an image that stands for one of two sites is one of a list of both
 pub one_of_two : (s t : Site) (image : List ℕ) → IsEither s t image → HasCondition (Down (durable s ∷ durable t ∷ [])) image
@@ -121,6 +122,10 @@ still_in (states.Up m) (Down sites) a b none is = absurd is
 still_in states.Down (Up s) a b none is = absurd is
 still_in states.Down (Down sites) a b none is = λ image may. is image (none 0 image may)
 
+pub still_match : (state : State) (a b : View) → HasNoNewImage a b → StateImagesMatch state a → StateImagesMatch state b
+still_match (states.Up m) a b none on = λ image may. on image (none 0 image may)
+still_match states.Down a b none on = tt
+
 -- What a line that is served came to
 
 module _ (m : Manager) (request : Request) (a b : View) (ne : request ≢ Boot) where
@@ -128,80 +133,50 @@ module _ (m : Manager) (request : Request) (a b : View) (ne : request ≢ Boot) 
   s = site_of m
 
   -- the pictures where no device failed, and where one did
-  within_up : (ImagesMatch m a → Within 0 IsAnyStep (IsEither (site_of m) (step (site_of m) request).site) a b) → (c : Condition) → StateMatches (states.Up m) c a → Within 0 IsAnyStep (IsBeforeOrAfter c (turn_between false a.reads c request)) a b
+  within_up : ChangesOnce (step (site_of m) request) m a b → (c : Condition) → StateMatches (states.Up m) c a → Within 0 IsAnyStep (IsBeforeOrAfter c (turn_between false a.reads c request)) a b
   within_up stop c is =
       let up = up_only m c a is in
       subst (λ (x : Condition). Within 0 IsAnyStep (IsBeforeOrAfter x (turn_between false a.reads x request)) a b) (sym up.0)
-      (steady_pictures s request (turn_between false a.reads (Up (site_of m)) request) a b (steady_is s request ne) (stop up.1))
+      (steady_pictures s request (turn_between false a.reads (Up (site_of m)) request) a b (steady_is s request ne) stop.within)
 
-  within_down : (ImagesMatch m a → Within 0 IsAnyStep (IsEither (site_of m) (step (site_of m) request).site) a b) → (c : Condition) → StateMatches (states.Up m) c a → Within 0 IsAnyStep (IsBeforeOrAfter c (turn_between true a.reads c request)) a b
+  within_down : ChangesOnce (step (site_of m) request) m a b → (c : Condition) → StateMatches (states.Up m) c a → Within 0 IsAnyStep (IsBeforeOrAfter c (turn_between true a.reads c request)) a b
   within_down stop c is =
       let up = up_only m c a is in
       subst (λ (x : Condition). Within 0 IsAnyStep (IsBeforeOrAfter x (turn_between true a.reads x request)) a b) (sym up.0)
-      (failing_pictures s request (turn_between true a.reads (Up (site_of m)) request) a b refl (stop up.1))
+      (failing_pictures s request (turn_between true a.reads (Up (site_of m)) request) a b refl stop.within)
 
   -- done, and no device failed
-  pub served : (m' : Manager) (answer : Answer) → b.faults ≡ a.faults → answer ≡ (step (site_of m) request).answer → site_of m' ≡ (step (site_of m) request).site → (ImagesMatch m a → ImagesMatch m' b)
-      → (ImagesMatch m a → Within 0 IsAnyStep (IsEither (site_of m) (step (site_of m) request).site) a b) → HasTurned (states.Up m) (states.Up m') request answer a b
-  served m' answer same said site on stop = record {
+  pub served : (m' : Manager) (answer : Answer) → b.faults ≡ a.faults → IsServed (step (site_of m) request) m m' b answer → ChangesOnce (step (site_of m) request) m a b → HasTurned (states.Up m) (states.Up m') request answer a b
+  served m' answer same is_served stop = record {
     failed = false;
     cause = no_cause a.faults b.faults same;
     answer = λ c is.
         let up = up_only m c a is in
-        subst (λ (x : Condition). answer ≡ (turn_between false a.reads x request).answer) (sym up.0) (said ∙ ap (λ (t : Turn). t.answer) (sym (steady_is s request ne)));
+        subst (λ (x : Condition). answer ≡ (turn_between false a.reads x request).answer) (sym up.0) (is_served.answer ∙ ap (λ (t : Turn). t.answer) (sym (steady_is s request ne)));
     then = λ c is.
         let up = up_only m c a is in
         subst (λ (x : Condition). StateMatches (states.Up m') (turn_between false a.reads x request).condition b) (sym up.0)
-        (subst (λ (t : Turn). StateMatches (states.Up m') t.condition b) (sym (steady_is s request ne)) (record { site = site; on = on up.1 }));
+        (subst (λ (t : Turn). StateMatches (states.Up m') t.condition b) (sym (steady_is s request ne)) (record { site = is_served.site; on = is_served.images }));
     within = within_up stop;
   }
 
-  pub serving : b.faults ≡ a.faults → (ImagesMatch m a → Within 0 IsAnyStep (IsEither (site_of m) (step (site_of m) request).site) a b) → IsTurning (states.Up m) request a b
+  pub serving : b.faults ≡ a.faults → ChangesOnce (step (site_of m) request) m a b → IsTurning (states.Up m) request a b
   serving same stop = record { failed = false; cause = no_cause a.faults b.faults same; within = within_up stop }
 
   -- a device failed
-  pub failed : Rises a.faults b.faults → (ImagesMatch m a → Within 0 IsAnyStep (IsEither (site_of m) (step (site_of m) request).site) a b) → HasTurned (states.Up m) states.Down request answers.SystemError a b
+  pub failed : Rises a.faults b.faults → ChangesOnce (step (site_of m) request) m a b → HasTurned (states.Up m) states.Down request answers.SystemError a b
   failed rises stop = record {
     failed = true;
     cause = its_cause a.faults b.faults rises;
     answer = λ c is. let up = up_only m c a is in subst (λ (x : Condition). answers.SystemError ≡ (turn_between true a.reads x request).answer) (sym up.0) refl;
     then = λ c is.
         let up = up_only m c a is in
-        subst (λ (x : Condition). StateMatches states.Down (turn_between true a.reads x request).condition b) (sym up.0) (failed_images s request a b (stop up.1));
+        subst (λ (x : Condition). StateMatches states.Down (turn_between true a.reads x request).condition b) (sym up.0) (failed_images s request a b stop.within);
     within = within_down stop;
   }
 
-  pub failing : Rises a.faults b.faults → (ImagesMatch m a → Within 0 IsAnyStep (IsEither (site_of m) (step (site_of m) request).site) a b) → IsTurning (states.Up m) request a b
+  pub failing : Rises a.faults b.faults → ChangesOnce (step (site_of m) request) m a b → IsTurning (states.Up m) request a b
   failing rises stop = record { failed = true; cause = its_cause a.faults b.faults rises; within = within_down stop }
-
-  -- it ended without an answer
-  pub ended : (stop : RunEnd) → StopCounts stop a b → (stop ≢ Memory → stop ≡ Failed) → (ImagesMatch m a → Within 0 IsAnyStep (IsEither (site_of m) (step (site_of m) request).site) a b) → IsTurning (states.Up m) request a b
-  ended Memory counts two stop = serving counts.device stop
-  ended Failed counts two stop = failing counts.device stop
-  ended Damaged counts two stop = absurd (unlike (two (λ e. cc)))
-    where
-      unlike : Damaged ≡ Failed → ⊥
-      unlike e = cc
-  ended Input counts two stop = absurd (unlike (two (λ e. cc)))
-    where
-      unlike : Input ≡ Failed → ⊥
-      unlike e = cc
-  ended Output counts two stop = absurd (unlike (two (λ e. cc)))
-    where
-      unlike : Output ≡ Failed → ⊥
-      unlike e = cc
-  ended TooMuchInput counts two stop = absurd (unlike (two (λ e. cc)))
-    where
-      unlike : TooMuchInput ≡ Failed → ⊥
-      unlike e = cc
-
-pub stop_later : (stop : RunEnd) (a b : View) → StopCounts stop a b → a.faults ≤ b.faults
-stop_later Memory a b counts = omega (arith, counts.device)
-stop_later Failed a b counts = counts.device.later
-stop_later Damaged a b counts = omega (arith, counts.device)
-stop_later Input a b counts = omega (arith, counts.device)
-stop_later Output a b counts = omega (arith, counts.device)
-stop_later TooMuchInput a b counts = omega (arith, counts.device)
 
 -- where no device failed
 pub quiet_unless : (stop : RunEnd) (a b : View) → StopCounts stop a b → stop ≢ Failed → b.faults ≡ a.faults

@@ -1,12 +1,9 @@
 -- How a space is made: what a stop leaves while it is, and what is on the device then.
-use Rattle.std.proofs.Common.{◌≡◌, inl, inr, ⊎_elim, ◌<◌, ◌≤◌, ℕ, ◌+◌, ◌-◌, ◌*◌, List, [], Option, Some, None, refl, sym, ◌∙◌, ap, subst, arith, length, get_or, take, drop}
+use Rattle.std.proofs.Common.{◌≡◌, inl, inr, ⊎_elim, ◌<◌, ◌≤◌, ℕ, ◌+◌, ◌-◌, ◌*◌, List, [], ◌∷◌, ◌++◌, Option, Some, None, refl, sym, ◌∙◌, ap, subst, arith, length, get_or, take, drop}
 use Rattle.std.specs.Prelude.{option_map}
 use Rattle.std.specs.Option.{option_and_then}
 use Rattle.std.proofs.lemmas.Bool.Decides.{nat_tests}
-use Rattle.std.proofs.lemmas.List.{ext_get_or, length-drop, get_or-drop, drop-drop}
-use Rattle.tq_field.specs.Digits.{number_of}
-use Rattle.tq_field.specs.Places.{run_at}
-use Rattle.tq_field.specs.GatedLog.{log_reading}
+use Rattle.std.proofs.lemmas.List.{ext_get_or, length-drop, get_or-drop}
 use Rattle.tq_host.specs.View.{Told, View, IsLawful, IsSettled}
 use Rattle.tq_host.specs.Within.{Within}
 use Rattle.tq_host.proofs.Within.{weaker, in_a_row, wider}
@@ -17,22 +14,26 @@ use Rattle.tq_model.specs.declared.answer.SpacePages.{SpacePages}
 use Rattle.tq_model.specs.declared.request.SpaceCreation.{SpaceCreation}
 use Rattle.tq_model.specs.declared.space.Shape.{Shape}
 use Rattle.tq_model.specs.Moves.{IndexedSpace}
-use Rattle.tq_model.specs.Parts.{IsPart}
+use Rattle.tq_model.specs.declared.answer.Extent.{Extent}
+use Rattle.tq_model.specs.Parts.{IsPart, table_with}
+use Rattle.tq_model.proofs.CreationLemmas.{first_clusters}
 use Rattle.tq_model.specs.Plain.{IsBefore, IsNewer}
-use Rattle.tq_model.specs.Site.{Site, volume_of}
+use Rattle.tq_model.specs.Site.{Site, Volume, volume_of, clusters_for}
 use Rattle.tq_model.specs.Space.{overhead_pages}
-use Rattle.tq_model.specs.SpaceForm.{RawSpace, raw_space, shape_of, empty_space, log_bytes, replayed}
-use Rattle.tq_model.specs.Step.{Outcome, create_space, unless, space_made, shape_asked, pages_asked, field_refused}
-use Rattle.tq_model.specs.Reading.{hold_all, page_tests, space_start}
+use Rattle.tq_model.specs.SpaceForm.{raw_space, shape_of, empty_space, replayed}
+use Rattle.tq_model.specs.Step.{Outcome, create_space, unless, space_made, placed_new, shape_asked, pages_asked, field_refused}
+use Rattle.tq_model.specs.Reading.{hold_all, page_tests, payloads_in}
+use Rattle.tq_model.specs.DeviceForm.{first_page}
 use Rattle.tq_model.proofs.Replays.{empty_plain, empty_ids}
 use Rattle.tq_device.specs.declared.content.DeviceContent.{DeviceContent}
 use Rattle.tq_device.specs.declared.content.NamedSpace.{NamedSpace}
 use Rattle.tq_device.specs.Content.{HasContent, part_of, entered, IsLonger, IsSameButTable, IsOldOrEntered, IsAny, IsAnyStep}
 use Rattle.tq_spacefile.specs.declared.file.SpaceFile.{SpaceFile}
 use Rattle.tq_spacefile.specs.File.{IsFormatted, IsSameButSpace, HasSpace, IsFile, place_in, held_in, logged_in}
-use Rattle.tq_spacefile.specs.Place.{space_end}
-use Rattle.tq_run.specs.declared.manager.Manager.{Manager}
-use Rattle.tq_run.specs.Manager.{site_of, site_with, site_at, placed_at, placed_in, place_of, IsContentOn}
+use Rattle.tq_spacefile.specs.Place.{space_end, space_bytes, page_of}
+use Rattle.tq_run.specs.declared.site.Manager.{Manager}
+use Rattle.tq_run.specs.Manager.{site_of, site_with, site_at, placed_at, placed_in, IsContentOn}
+use Rattle.tq_run.specs.Together.{place_of}
 use Rattle.tq_run.specs.Spaces.{IsShape, IsAdmitted, HasNewSpace, IsNewSpaceOn, IsBareOrNew}
 use Rattle.tq_run.specs.Stops.{HasSite, IsEither}
 use Rattle.tq_run.proofs.FoundLemmas.{image_at, image_bare, part_of_stands}
@@ -48,43 +49,14 @@ drop_same at old new size bytes =
     ext_get_or 0 (drop at new) (drop at old) (length-drop at new ∙ ap (λ n. n - at) size ∙ sym (length-drop at old))
     (λ i lt. get_or-drop at new i 0 ∙ bytes (at + i) (omega arith) ∙ sym (get_or-drop at old i 0))
 
-module _ (at : ℕ) (old new : List ℕ) (same : drop at new ≡ drop at old) where
-  run_behind : (k n : ℕ) → run_at (at + k) n new ≡ run_at (at + k) n old
-  run_behind k n = ap (take n) (sym (drop-drop k at new) ∙ ap (drop k) same ∙ drop-drop k at old)
-
-  byte_behind : (k : ℕ) → get_or new (at + k) 0 ≡ get_or old (at + k) 0
-  byte_behind k = sym (get_or-drop at new k 0) ∙ ap (λ (l : List ℕ). get_or l k 0) same ∙ get_or-drop at old k 0
-
-  raw_space_same : raw_space at new ≡ raw_space at old
-  raw_space_same =
-      let mark = ap (take 8) same in
-      let version = ap number_of (run_behind 8 2) in
-      let queues = ap number_of (run_behind 10 2) in
-      let messages = ap number_of (run_behind 12 2) in
-      let transactions = ap number_of (run_behind 14 2) in
-      let memory = ap number_of (run_behind 16 8) in
-      let size = byte_behind 24 in
-      let error = ap (λ (n : ℕ). run_at (at + 25) n new) size ∙ run_behind 25 (get_or old (at + 24) 0) in
-      λ i. record {
-        mark = mark i;
-        version = version i;
-        queues = queues i;
-        messages = messages i;
-        transactions = transactions i;
-        memory = memory i;
-        error_size = size i;
-        error = error i;
-      }
-
 -- pages that are formatted stay so where the bytes behind the header do
 pub formatted_kept : (shape : Shape) (old new : List ℕ) → length new ≡ length old → ((i : ℕ) → 131072 ≤ i → get_or new i 0 ≡ get_or old i 0) → IsFormatted shape old → IsFormatted shape new
 formatted_kept shape old new size bytes is =
-    let same = drop_same 131072 old new size bytes in
-    let raw = raw_space_same 131072 old new same in
+    let same : space_bytes shape.pages new ≡ space_bytes shape.pages old = ap (λ (l : List ℕ). take (32768 * clusters_for shape.pages) l ++ []) (drop_same 131072 old new size bytes) in
     record {
-      page = ap (λ (r : RawSpace). hold_all (page_tests space_start shape.pages r)) raw ∙ is.page;
-      shape_is = ap (shape_of shape.pages) raw ∙ is.shape_is;
-      empty = ap log_reading (run_behind 131072 old new same 2048 (log_bytes shape.pages)) ∙ is.empty;
+      page = ap (λ (b : List ℕ). hold_all (page_tests shape.pages (raw_space (first_page b)))) same ∙ is.page;
+      shape_is = ap (λ (b : List ℕ). shape_of shape.pages (raw_space (first_page b))) same ∙ is.shape_is;
+      empty = ap (payloads_in shape.pages) same ∙ is.empty;
     }
 
 -- what is read of pages that are formatted
@@ -98,7 +70,7 @@ formatted_has d n shape epoch image pages is reach =
       page = is.page;
       payloads = [];
       reads =
-          ap (option_and_then (λ (payloads : List (List ℕ)). option_map (λ (s : IndexedSpace). record { payloads = payloads; space = s }) (replayed epoch payloads (empty_space (shape_of shape.pages (raw_space space_start image)) d.site number)))) is.empty
+          ap (option_and_then (λ (payloads : List (List ℕ)). option_map (λ (s : IndexedSpace). record { payloads = payloads; space = s }) (replayed epoch payloads (empty_space (shape_of shape.pages (raw_space (page_of shape.pages image))) d.site number)))) is.empty
           ∙ ap (λ (s : Shape). Some (record { payloads = []; space = empty_space s d.site number })) is.shape_is;
       ends = refl;
     })
@@ -175,16 +147,20 @@ abbrev new_outcome : SpaceCreation → DeviceContent → ℕ → Outcome
 new_outcome c d next = record { site = new_site d c.name (shape_asked c) next; answer = answers.Space (space_answers.Created (record { number = 8 * d.next_space + 0; pages = pages_asked c })) }
 
 module _ (c : SpaceCreation) (m : Manager) (d : DeviceContent) (is : IsAdmitted m c d) where
-  space_granted : create_space c (site_of m) ≡ new_outcome c d m.next
-  space_granted =
-      ap (λ (r : Option Answer). unless r (site_of m) (space_made c (site_of m) (volume_of (site_of m) c.dev))) is.granted
-      ∙ ap (λ (content : Option DeviceContent). space_made c (site_with content m.file m.next) (volume_of (site_with content m.file m.next) c.dev)) is.content ∙ at_zero
-    where
-      at_zero : space_made c (site_with (Some d) m.file m.next) (volume_of (site_with (Some d) m.file m.next) c.dev) ≡ new_outcome c d m.next
-      at_zero = subst (λ dev. space_made (record c { dev = dev }) (site_with (Some d) m.file m.next) (volume_of (site_with (Some d) m.file m.next) dev) ≡ new_outcome c d m.next) (sym is.dev) refl
-
   bare_site : site_of m ≡ site_at d None m.next
   bare_site = ap (λ (content : Option DeviceContent). site_with content m.file m.next) is.content ∙ ap (λ (named : Option NamedSpace). site_at d (placed_in named m.file) m.next) is.bare
+
+  space_granted : create_space c (site_of m) ≡ new_outcome c d m.next
+  space_granted =
+      let bare : Volume = record { clusters = d.clusters; next_space = d.next_space; entries = table_with None } in
+      let made : List Extent → Outcome = λ extents. record {
+        site = record (site_at d None m.next) { devices = Some (record bare { next_space = d.next_space + 1; entries = table_with (Some (placed_new (record c { dev = 0 }) d.site d.next_space extents)) }) ∷ [] };
+        answer = answers.Space (space_answers.Created (record { number = 8 * d.next_space + 0; pages = pages_asked c }));
+      } in
+      ap (λ (r : Option Answer). unless r (site_of m) (space_made c (site_of m) (volume_of (site_of m) c.dev))) is.granted
+      ∙ ap (λ (s : Site). space_made c s (volume_of s c.dev)) bare_site
+      ∙ subst (λ dev. space_made (record c { dev = dev }) (site_at d None m.next) (volume_of (site_at d None m.next) dev) ≡ new_outcome c d m.next) (sym is.dev)
+      (ap made (first_clusters bare (clusters_for c.pages) refl (omega (arith, is.large)) is.clusters))
 
   -- an image without the space, and one with it
   bare_stands : (image : List ℕ) → IsPart (part_of d) image → HasSite (site_of m) image

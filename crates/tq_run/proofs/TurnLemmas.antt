@@ -2,7 +2,7 @@
 use Rattle.std.proofs.Common.{◌≡◌, ◌⊎◌, inl, inr, ⊎_elim, ◌<◌, ◌≤◌, ℕ, zero, suc, ◌+◌, ◌-◌, List, [], ◌∷◌, ◌++◌, Option, Bool, true, refl, sym, ◌∙◌, ap, subst, arith, length, take, get_or, append_assoc, length-append}
 use Rattle.std.specs.Prelude.{map, replicate}
 use Rattle.std.proofs.lemmas.List.{append-nil, append_cancel_left, take_all, take_at, take-append-le, length-replicate}
-use Rattle.tq_host.specs.View.{View, Stamp, Picture, Streams}
+use Rattle.tq_host.specs.View.{View, Stamp, Picture, Streams, stamp_now}
 use Rattle.tq_host.specs.Calls.{HasCauseOf, IsGiven, IsGiving}
 use Rattle.tq_host.specs.Within.{Within, Ran}
 use Rattle.tq_host.proofs.Running.{ran_on, ran_call, ran_weaker}
@@ -323,7 +323,7 @@ module _ {o : Origin} {found : Site} {failed : Failures} {done : List Request} {
 
   module _ {d : View} {k : ℕ} (same : d.faults ≡ b.faults) (given : IsGiven k (line_text (length done) t.answer) b d) where
     abbrev told_here : Stamp
-    told_here = record { faults = b.faults; reads = b.reads }
+    told_here = stamp_now b
 
     abbrev more : List Stamp
     more = replicate k told_here
@@ -337,7 +337,7 @@ module _ {o : Origin} {found : Site} {failed : Failures} {done : List Request} {
 
     -- the steps that failed, with this line
     abbrev pub line_since : Failures
-    line_since = next_choice failed (length answered.added) fails (trace_from o d.faults (answered.added ++ replicate k (record { faults = b.faults; reads = b.reads })))
+    line_since = next_choice failed (length answered.added) fails (trace_from o d.faults (answered.added ++ replicate k (stamp_now b)))
 
     pub line_on : GoesOn o a failed line_since
     line_on = on answered r t d more stamps b.faults (first_told k) fails cause same is

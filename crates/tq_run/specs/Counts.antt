@@ -2,6 +2,10 @@
 use Rattle.std.specs.Prelude.{◌≡◌, ◌≤◌, ℕ, Result, Ok, Err}
 use Rattle.tq_host.specs.View.{View}
 use Rattle.tq_host.specs.Calls.{Rose}
+use Rattle.tq_spacefile.specs.declared.fault.FileError.{FileError}
+use Rattle.tq_spacefile.specs.declared.fault.FileError.TheVariants as files
+use Rattle.tq_run.specs.declared.status.BootFailure.{BootFailure}
+use Rattle.tq_run.specs.declared.status.BootFailure.TheVariants as boots
 use Rattle.tq_run.specs.declared.status.RunEnd.{RunEnd}
 use Rattle.tq_run.specs.declared.status.RunEnd.TheVariants.{Damaged, Memory, Input, Output, Device, TooMuchInput}
 
@@ -77,3 +81,23 @@ RunStopCounts TooMuchInput old new = IsCalm old new
 abbrev pub HasRunCounts : {T : Type 0} → Result T RunEnd → View → View → Type 0
 HasRunCounts (Ok x) old new = IsCalm old new
 HasRunCounts (Err stop) old new = RunStopCounts stop old new
+
+-- ---- Boots
+
+abbrev pub boot_failure_of : FileError → BootFailure
+boot_failure_of files.Damaged = boots.Damaged
+boot_failure_of files.Device = boots.Device
+boot_failure_of files.NoMemory = boots.Memory
+
+-- what ends a run whose first boot fails
+abbrev pub end_after_boot : BootFailure → RunEnd
+end_after_boot boots.Damaged = Damaged
+end_after_boot boots.Memory = Memory
+end_after_boot boots.Device = Device
+
+-- the count of device failures rose where a device failed, and nowhere else
+abbrev pub CountsBoot : {T : Type 0} → Result T BootFailure → ℕ → ℕ → Type 0
+CountsBoot (Ok x) before now = now ≡ before
+CountsBoot (Err boots.Damaged) before now = now ≡ before
+CountsBoot (Err boots.Memory) before now = now ≡ before
+CountsBoot (Err boots.Device) before now = Rises before now

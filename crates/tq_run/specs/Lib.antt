@@ -1,5 +1,6 @@
 pub mod Counts
 pub mod Words
+pub mod Together
 pub mod Manager
 pub mod Input
 pub mod Output
@@ -7,6 +8,8 @@ pub mod Failures
 pub mod Ending
 pub mod Stops
 pub mod Spaces
+pub mod SpaceCalls
 pub mod Calls
+pub mod Serving
 pub mod Turns
 pub mod Standing

@@ -4,20 +4,17 @@ use Rattle.tq_host.specs.View.{View}
 use Rattle.tq_model.specs.declared.answer.Identity.{Identity}
 use Rattle.tq_model.specs.Moves.{IndexedSpace, space_of}
 use Rattle.tq_model.specs.Plain.{IsNewer}
-use Rattle.tq_model.specs.Site.{Site, Volume, SpaceOnDevice, table_with, first_extents}
+use Rattle.tq_model.specs.Site.{Site, Volume, SpaceOnDevice}
+use Rattle.tq_model.specs.Parts.{table_with, first_extents}
 use Rattle.tq_model.specs.Step.{can_boot, booted}
 use Rattle.tq_model.specs.Reading.{site_found}
 use Rattle.tq_device.specs.declared.content.DeviceContent.{DeviceContent}
 use Rattle.tq_device.specs.declared.content.NamedSpace.{NamedSpace}
 use Rattle.tq_device.specs.Content.{HasContent}
-use Rattle.tq_spacefile.specs.declared.place.SpacePlace.{SpacePlace}
 use Rattle.tq_spacefile.specs.declared.file.SpaceFile.{SpaceFile}
 use Rattle.tq_spacefile.specs.File.{IsFile, place_in, held_in, logged_in}
-use Rattle.tq_spacefile.specs.declared.fault.FileError.{FileError}
-use Rattle.tq_spacefile.specs.declared.fault.FileError.TheVariants as files
-use Rattle.tq_run.specs.declared.status.RunEnd.{RunEnd}
-use Rattle.tq_run.specs.declared.status.RunEnd.TheVariants as stops
-use Rattle.tq_run.specs.declared.manager.Manager.{Manager}
+use Rattle.tq_run.specs.declared.site.Manager.{Manager}
+use Rattle.tq_run.specs.Together.{place_of}
 
 -- The site
 
@@ -50,25 +47,6 @@ abbrev pub site_of : Manager → Site
 site_of m = site_with m.content m.file m.next
 
 -- On the device
-
--- where the space of that name lies, on device 0
-abbrev pub place_of : DeviceContent → NamedSpace → SpacePlace
-place_of d n = record { dev = 0; pages = n.pages; site = d.site; number = 8 * n.ordinal + 0 }
-
--- a space is in memory exactly where the table names one, and that is its place
-abbrev pub IsFileOf : DeviceContent → Option NamedSpace → Option SpaceFile → Type 0
-IsFileOf d None None = Unit {0}
-IsFileOf d None (Some f) = ⊥
-IsFileOf d (Some n) None = ⊥
-IsFileOf d (Some n) (Some f) = place_in f ≡ place_of d n
-
-abbrev pub IsTogether : Option DeviceContent → Option SpaceFile → Type 0
-IsTogether None None = Unit {0}
-IsTogether None (Some f) = ⊥
-IsTogether (Some d) file = IsFileOf d d.named file
-
-abbrev pub IsFit : Manager → Type 0
-IsFit m = IsTogether m.content m.file
 
 -- An image has the space that the table names; the next message is newer than all of its.
 pub record IsSpaceOn (d : DeviceContent) (n : NamedSpace) (f : SpaceFile) (next : ℕ) (image : List ℕ) : Type 0 where
@@ -119,12 +97,6 @@ pub record IsRaised (d : DeviceContent) (file : Option SpaceFile) (m : Manager) 
   pub below : d.epoch < 4294967295
   pub site : site_of m ≡ booted (loaded_site d file)
   pub stands : ImageMatches m image
-
--- what ends a run where its space is not loaded
-abbrev pub stop_for : FileError → RunEnd
-stop_for files.Damaged = stops.Damaged
-stop_for files.Device = stops.Device
-stop_for files.NoMemory = stops.Memory
 
 -- after a boot of what the devices stood for
 pub record IsBooted (m : Manager) (old new : View) : Type 0 where

@@ -1,5 +1,5 @@
 -- What is given, and what is taken.
-use Rattle.std.specs.Prelude.{◌≡◌, ◌≤◌, List, ◌∷◌, ◌++◌}
+use Rattle.std.specs.Prelude.{◌≡◌, ◌<◌, ◌≤◌, ℕ, List, [], ◌∷◌, ◌++◌, length, get_or, Option, Some}
 use Rattle.tq_host.specs.View.{View, Stamp}
 
 -- what was told with the output stays told
@@ -12,6 +12,14 @@ pub record HasBegun (old new : View) : Type 0 where
   pub rest : List Stamp
   pub stamps : new.streams.stamps ≡ old.streams.stamps ++ first ∷ rest
   pub calm : first.faults ≡ old.faults
+
+-- the devices are attached by these paths, the first device by the first of them
+abbrev pub AreAttached : List (List ℕ) → (ℕ → Option (List ℕ)) → Type 0
+AreAttached paths attached = (i : ℕ) → i < length paths → attached i ≡ Some (get_or paths i [])
+
+-- where a first byte was given, the devices were attached by these paths then
+abbrev pub BeginsAttached : List (List ℕ) → View → View → Type 0
+BeginsAttached paths old new = (first : Stamp) (rest : List Stamp) → new.streams.stamps ≡ old.streams.stamps ++ first ∷ rest → AreAttached paths first.attached
 
 -- the input is as it was
 pub record KeepsInput (old new : View) : Type 0 where

@@ -10,7 +10,7 @@ use Rattle.tq_device.specs.declared.content.DeviceContent.{DeviceContent}
 use Rattle.tq_device.specs.Content.{HasContent, part_of, entered}
 use Rattle.tq_spacefile.specs.File.{IsFormatted}
 use Rattle.tq_spacefile.specs.Place.{space_end}
-use Rattle.tq_run.specs.declared.manager.Manager.{Manager}
+use Rattle.tq_run.specs.declared.site.Manager.{Manager}
 use Rattle.tq_run.specs.Manager.{site_of}
 
 -- a shape within the limits of spaces

@@ -9,10 +9,10 @@ use Rattle.tq_model.specs.declared.request.Request.{Request}
 use Rattle.tq_model.specs.declared.request.Request.TheVariants.{Boot}
 use Rattle.tq_model.specs.Site.{Site}
 use Rattle.tq_model.specs.MachineWithFaults.{Condition, Failures, Up, Down}
-use Rattle.tq_run.specs.declared.manager.Manager.{Manager}
+use Rattle.tq_run.specs.declared.site.Manager.{Manager}
 use Rattle.tq_run.specs.declared.state.State.{State}
 use Rattle.tq_run.specs.declared.state.State.TheVariants as states
-use Rattle.tq_run.specs.Manager.{site_of, ImageMatches, IsFit}
+use Rattle.tq_run.specs.Manager.{site_of}
 use Rattle.tq_run.specs.Stops.{ImagesMatch}
 use Rattle.tq_run.specs.Turns.{HasCondition, IsBeforeOrAfter, turn_between, Origin, origin_of, IsAnswered, IsOfLines, GoesOn}
 
@@ -28,20 +28,15 @@ StateMatches (states.Up m) (Down sites) v = ⊥
 StateMatches states.Down (Up s) v = ⊥
 StateMatches states.Down (Down sites) v = (c : List ℕ) → v.may_leave 0 c → HasCondition (Down sites) c
 
--- what a state needs for its next call
-abbrev pub IsWellFormed : State → Type 0
-IsWellFormed (states.Up m) = IsFit m
-IsWellFormed states.Down = Unit {0}
-
 -- the number of the next message
 abbrev pub next_of : State → ℕ
 next_of (states.Up m) = m.next
 next_of states.Down = 0
 
--- the device has what the state holds
-abbrev pub ReadMatches : State → List ℕ → Type 0
-ReadMatches (states.Up m) image = ImageMatches m image
-ReadMatches states.Down image = Unit {0}
+-- each image that a stop may leave of device 0 has what the state holds
+abbrev pub StateImagesMatch : State → View → Type 0
+StateImagesMatch (states.Up m) v = ImagesMatch m v
+StateImagesMatch states.Down v = Unit {0}
 
 -- What a line came to: the answer of the machine's turn from the state's condition, and a state with the condition after it;
 -- in each picture of the line the device stands for the condition before the turn, or after it.

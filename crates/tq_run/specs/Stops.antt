@@ -4,7 +4,7 @@ use Rattle.tq_host.specs.View.{View, Picture, Stamp, AreNow}
 use Rattle.tq_model.specs.Site.{Site, durable}
 use Rattle.tq_model.specs.Reading.{site_found}
 use Rattle.tq_model.specs.Step.{can_boot, booted}
-use Rattle.tq_run.specs.declared.manager.Manager.{Manager}
+use Rattle.tq_run.specs.declared.site.Manager.{Manager}
 use Rattle.tq_run.specs.Manager.{ImageMatches}
 use Rattle.tq_model.specs.Grammar.{script_requests}
 use Rattle.tq_model.specs.MachineWithFaults.{Trace, Failures, HaveCondition, machine_after}
@@ -38,6 +38,11 @@ HasNoNewImage old new = (d : ℕ) (c : List ℕ) → new.may_leave d c → old.m
 pub record IsWaiting (start : View) (p : Picture) : Type 0 where
   pub images : AreNow start p.images
   pub output : p.output ≡ start.streams.output
+
+-- Nothing was written and nothing given, at any moment: each picture has images of the start, and its output.
+pub record IsLeftAlone (start now : View) : Type 0 where
+  pub output : now.streams.output ≡ start.streams.output
+  pub pictures : (p : Picture) → now.left_since start.clock p → IsWaiting start p
 
 -- A picture of a run: after some number of whole lines, line 0 being the first, the device stands for the machine's state, and
 -- the output is a first part of the text of these lines that has all but an end of the last one.

@@ -1,18 +1,18 @@
-ghost use Rattle.std.specs.Prelude.{◌≡◌, ◌≢◌, ◌<◌, ◌≤◌, ◌+◌, ◌-◌, List, ℕ, IfOk, IfErr, OnOk, IfNone, None, is_some, map};
-ghost use Rattle.tq_host.specs.Within.{KeepsRest, Within};
+ghost use Rattle.std.specs.Prelude.{◌≡◌, ◌≤◌, IfOk, IfNone, None, is_some, map};
+ghost use Rattle.tq_host.specs.Calls.{HasCause};
 ghost use Rattle.tq_model.specs.Step.{device_step, creation_refusal, create_device, list_device, ready, site_asked};
-ghost use Rattle.tq_device.specs.Content.{IsAnyStep};
-ghost use Rattle.tq_run.specs.Counts.{HasCounts};
-ghost use Rattle.tq_run.specs.Stops.{ImagesMatch, IsEither};
-ghost use Rattle.tq_run.specs.Manager.{site_of, placed_in, placed_of, volume_in, ImageMatches, IsFit};
-ghost use Rattle.tq_model.specs.Site.{capacity_of, first_extents, clusters_for, space_count, spaces_on};
+ghost use Rattle.tq_run.specs.Stops.{ImagesMatch};
+ghost use Rattle.tq_run.specs.Manager.{site_of, placed_in, placed_of, volume_in};
+ghost use Rattle.tq_run.specs.Serving.{IsServed, ChangesOnce, CountsFailure};
+ghost use Rattle.tq_model.specs.Site.{capacity_of, clusters_for, space_count, spaces_on};
+ghost use Rattle.tq_model.specs.Parts.{first_extents};
 ghost use Rattle.tq_model.specs.Step.{space_line};
 
-use crate::manager::Manager;
-use crate::status::RunEnd;
+use crate::site::Manager;
+use crate::status::Failure;
 use std::alloc::{AllocError, Global};
 use tq_device::{DeviceContent, NamedSpace, create};
-use tq_host::Host;
+use tq_host::{Failed, Host};
 use tq_model::{
     Answer, Capacity, Creation, DeviceAnswer, DeviceRequest, Extent, Extents, Field, Identity,
     Listing, Readiness, SpaceLine, SpaceLines,
@@ -162,26 +162,18 @@ fn create_device<H: Host>(
     host: &mut H,
     manager: &mut Manager,
     creation: &Creation,
-) -> Result<Answer, RunEnd>
-    requires fit { IsFit manager.old }
-    requires holds { H.tells.reads → ImageMatches manager.old ((H.view host.old).reads 0) }
-    ensures answer { IfOk result (λ a. a ≡ (create_device creation.now (site_of manager.old)).answer) }
-    ensures site { OnOk result (site_of manager.new ≡ (create_device creation.now (site_of manager.old)).site) }
-    ensures next { OnOk result (manager.new.next ≤ manager.old.next) }
-    ensures fit { OnOk result (IsFit manager.new) }
-    ensures holds { OnOk result (H.tells.reads → ImageMatches manager.new ((H.view host.new).reads 0)) }
-    ensures stop { ImagesMatch manager.old (H.view host.old) → Within 0 IsAnyStep (IsEither (site_of manager.old) (create_device creation.now (site_of manager.old)).site) (H.view host.old) (H.view host.new) }
-    ensures images { OnOk result (H.tells.reads → ImagesMatch manager.old (H.view host.old) → ImagesMatch manager.new (H.view host.new)) }
-    ensures counts { HasCounts result (H.view host.old) (H.view host.new) }
-    ensures rest { KeepsRest 0 (H.view host.old) (H.view host.new) }
-    ensures only { IfErr result (λ e. e ≡ RunEnd.Device) }
+) -> Result<Answer, Failed>
+    requires on { ImagesMatch manager.old (H.view host.old) }
+    ensures served { IfOk result (IsServed (create_device creation.now (site_of manager.old)) manager.old manager.new (H.view host.new)) }
+    ensures stop { ChangesOnce (create_device creation.now (site_of manager.old)) manager.old (H.view host.old) (H.view host.new) }
+    ensures failed { HasCause (H.view host.old).faults (H.view host.new).faults result }
 {
     if let Some(refusal) = refusal(manager, creation) {
         return Ok(Answer::Device(refusal));
     }
     let site = site_number(creation) as u32;
     let clusters = creation.clusters as u32;
-    let content = create(host, 0, site, clusters).map_err(|_| RunEnd::Device)?;
+    let content = create(host, 0, site, clusters)?;
     *manager = Manager {
         content: Some(content),
         file: None,
@@ -196,25 +188,14 @@ pub fn serve_device<H: Host>(
     host: &mut H,
     manager: &mut Manager,
     request: &DeviceRequest,
-) -> Result<Answer, RunEnd>
-    requires fit { IsFit manager.old }
-    requires holds { H.tells.reads → ImageMatches manager.old ((H.view host.old).reads 0) }
-    ensures answer { IfOk result (λ a. a ≡ (device_step (site_of manager.old) request.now).answer) }
-    ensures site { OnOk result (site_of manager.new ≡ (device_step (site_of manager.old) request.now).site) }
-    ensures next { OnOk result (manager.new.next ≤ manager.old.next) }
-    ensures fit { OnOk result (IsFit manager.new) }
-    ensures holds { OnOk result (H.tells.reads → ImageMatches manager.new ((H.view host.new).reads 0)) }
-    ensures stop { ImagesMatch manager.old (H.view host.old) → Within 0 IsAnyStep (IsEither (site_of manager.old) (device_step (site_of manager.old) request.now).site) (H.view host.old) (H.view host.new) }
-    ensures images { OnOk result (H.tells.reads → ImagesMatch manager.old (H.view host.old) → ImagesMatch manager.new (H.view host.new)) }
-    ensures counts { HasCounts result (H.view host.old) (H.view host.new) }
-    ensures rest { KeepsRest 0 (H.view host.old) (H.view host.new) }
-    ensures two { IfErr result (λ e. (e ≢ RunEnd.Memory) → e ≡ RunEnd.Device) }
+) -> Result<Answer, Failure>
+    requires on { ImagesMatch manager.old (H.view host.old) }
+    ensures served { IfOk result (IsServed (device_step (site_of manager.old) request.now) manager.old manager.new (H.view host.new)) }
+    ensures stop { ChangesOnce (device_step (site_of manager.old) request.now) manager.old (H.view host.old) (H.view host.new) }
+    ensures failed { CountsFailure result (H.view host.old).faults (H.view host.new).faults }
 {
     match request {
-        DeviceRequest::Create(creation) => create_device(host, manager, creation),
-        DeviceRequest::List(dev) => {
-            let answer = listing(alloc, manager, *dev).map_err(|_| RunEnd::Memory)?;
-            Ok(Answer::Device(answer))
-        }
+        DeviceRequest::Create(creation) => Ok(create_device(host, manager, creation)?),
+        DeviceRequest::List(dev) => Ok(Answer::Device(listing(alloc, manager, *dev)?)),
     }
 }

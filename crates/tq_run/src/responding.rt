@@ -1,17 +1,17 @@
-ghost use Rattle.std.specs.Prelude.{◌≡◌, ◌≢◌, ◌<◌, ◌≤◌, ◌+◌, ℕ, IfOk, IfErr, OnOk};
+ghost use Rattle.std.specs.Prelude.{◌≡◌, ◌≢◌, ◌<◌, ◌≤◌, ◌+◌, IfOk, OnOk};
 ghost use Rattle.tq_host.specs.View.{TellsAll};
 ghost use Rattle.tq_host.specs.Within.{KeepsRest};
 ghost use Rattle.tq_model.specs.declared.request.Request.{Request};
 ghost use Rattle.tq_model.specs.declared.request.Request.TheVariants as requests;
 ghost use Rattle.tq_model.specs.MachineWithFaults.{down_answer};
-ghost use Rattle.tq_run.specs.Standing.{IsWellFormed, next_of, ReadMatches, HasTurned, IsTurning};
+ghost use Rattle.tq_run.specs.Standing.{next_of, StateImagesMatch, HasTurned, IsTurning};
 
 use crate::devices::readiness;
 use crate::manager::boot;
 use crate::serving::serve;
 use crate::state::State;
-use crate::status::RunEnd;
-use std::alloc::Global;
+use crate::status::{BootFailure, Failure};
+use std::alloc::{AllocError, Global};
 use tq_host::Host;
 use tq_model::{Answer, Request};
 
@@ -30,16 +30,14 @@ fn down_answer(request: &Request) -> Answer
 }
 
 // A boot within a run: what was in memory is gone.
-fn reboot<H: Host>(alloc: Global, host: &mut H, state: &mut State) -> Result<Answer, RunEnd>
-    requires holds { H.tells.reads → ReadMatches state.old ((H.view host.old).reads 0) }
-    ensures sound { OnOk result (IsWellFormed state.new) }
+fn reboot<H: Host>(alloc: Global, host: &mut H, state: &mut State) -> Result<Answer, AllocError>
+    requires on { StateImagesMatch state.old (H.view host.old) }
     ensures next { OnOk result (next_of state.new ≡ 0) }
-    ensures holds { OnOk result (H.tells.reads → ReadMatches state.new ((H.view host.new).reads 0)) }
+    ensures on { OnOk result (StateImagesMatch state.new (H.view host.new)) }
     ensures turned { IfOk result (λ a. TellsAll H.tells → HasTurned state.old state.new requests.Boot a (H.view host.old) (H.view host.new)) }
     ensures stop { TellsAll H.tells → IsTurning state.old requests.Boot (H.view host.old) (H.view host.new) }
     ensures later { (H.view host.old).faults ≤ (H.view host.new).faults }
     ensures rest { KeepsRest 0 (H.view host.old) (H.view host.new) }
-    ensures only { IfErr result (λ e. e ≡ RunEnd.Memory) }
 {
     match boot(alloc, host) {
         Ok(manager) => {
@@ -47,17 +45,15 @@ fn reboot<H: Host>(alloc: Global, host: &mut H, state: &mut State) -> Result<Ans
             *state = State::Up(manager);
             Ok(answer)
         }
-        Err(stop) => match stop {
-            RunEnd::Damaged => {
-                *state = State::Down;
-                Ok(Answer::Damaged(0))
-            }
-            RunEnd::Device => {
-                *state = State::Down;
-                Ok(Answer::SystemError)
-            }
-            _ => Err(RunEnd::Memory),
-        },
+        Err(BootFailure::Damaged) => {
+            *state = State::Down;
+            Ok(Answer::Damaged(0))
+        }
+        Err(BootFailure::Device) => {
+            *state = State::Down;
+            Ok(Answer::SystemError)
+        }
+        Err(BootFailure::Memory) => Err(AllocError),
     }
 }
 
@@ -67,19 +63,16 @@ fn serve_standing<H: Host>(
     host: &mut H,
     state: &mut State,
     request: Request,
-) -> Result<Answer, RunEnd>
+) -> Result<Answer, AllocError>
     requires boot { request ≢ Request.Boot }
-    requires sound { IsWellFormed state.old }
     requires next { next_of state.old < 4294967295 }
-    requires holds { H.tells.reads → ReadMatches state.old ((H.view host.old).reads 0) }
-    ensures sound { OnOk result (IsWellFormed state.new) }
+    requires on { StateImagesMatch state.old (H.view host.old) }
     ensures next { OnOk result (next_of state.new ≤ next_of state.old + 1) }
-    ensures holds { OnOk result (H.tells.reads → ReadMatches state.new ((H.view host.new).reads 0)) }
+    ensures on { OnOk result (StateImagesMatch state.new (H.view host.new)) }
     ensures turned { IfOk result (λ a. TellsAll H.tells → HasTurned state.old state.new request a (H.view host.old) (H.view host.new)) }
     ensures stop { TellsAll H.tells → IsTurning state.old request (H.view host.old) (H.view host.new) }
     ensures later { (H.view host.old).faults ≤ (H.view host.new).faults }
     ensures rest { KeepsRest 0 (H.view host.old) (H.view host.new) }
-    ensures only { IfErr result (λ e. e ≡ RunEnd.Memory) }
 {
     let served = match state {
         State::Up(manager) => serve(alloc, host, manager, request),
@@ -87,11 +80,11 @@ fn serve_standing<H: Host>(
     };
     match served {
         Ok(answer) => Ok(answer),
-        Err(RunEnd::Device) => {
+        Err(Failure::Device) => {
             *state = State::Down;
             Ok(Answer::SystemError)
         }
-        Err(_) => Err(RunEnd::Memory),
+        Err(Failure::Memory) => Err(AllocError),
     }
 }
 
@@ -102,18 +95,15 @@ pub fn respond<H: Host>(
     host: &mut H,
     state: &mut State,
     request: Request,
-) -> Result<Answer, RunEnd>
-    requires sound { IsWellFormed state.old }
+) -> Result<Answer, AllocError>
     requires next { next_of state.old < 4294967295 }
-    requires holds { H.tells.reads → ReadMatches state.old ((H.view host.old).reads 0) }
-    ensures sound { OnOk result (IsWellFormed state.new) }
+    requires on { StateImagesMatch state.old (H.view host.old) }
     ensures next { OnOk result (next_of state.new ≤ next_of state.old + 1) }
-    ensures holds { OnOk result (H.tells.reads → ReadMatches state.new ((H.view host.new).reads 0)) }
+    ensures on { OnOk result (StateImagesMatch state.new (H.view host.new)) }
     ensures turned { IfOk result (λ a. TellsAll H.tells → HasTurned state.old state.new request a (H.view host.old) (H.view host.new)) }
     ensures stop { TellsAll H.tells → IsTurning state.old request (H.view host.old) (H.view host.new) }
     ensures later { (H.view host.old).faults ≤ (H.view host.new).faults }
     ensures rest { KeepsRest 0 (H.view host.old) (H.view host.new) }
-    ensures only { IfErr result (λ e. e ≡ RunEnd.Memory) }
 {
     if let Request::Boot = request {
         return reboot(alloc, host, state);

@@ -5,9 +5,11 @@ ghost use Rattle.tq_model.specs.Step.{can_boot};
 ghost use Rattle.tq_model.specs.MachineWithFaults.{Failures, rose_at};
 ghost use Rattle.tq_model.specs.declared.request.Request.{Request};
 ghost use Rattle.tq_model.specs.declared.request.Request.TheVariants as requests;
-ghost use Rattle.tq_run.specs.Stops.{IsCrashSafe};
+ghost use Rattle.tq_host.specs.Within.{Within};
+ghost use Rattle.tq_device.specs.Content.{IsSameImage, IsAny};
+ghost use Rattle.tq_run.specs.Stops.{IsCrashSafe, IsLeftAlone};
 ghost use Rattle.tq_run.specs.Turns.{Origin, origin_of, none_failed, RunsOver};
-ghost use Rattle.tq_run.specs.Standing.{IsWellFormed, next_of, ReadMatches, HasReached, HasRun, HasStarted};
+ghost use Rattle.tq_run.specs.Standing.{next_of, StateImagesMatch, HasReached, HasRun, HasStarted};
 ghost use Rattle.tq_model.specs.Site.{Site};
 ghost use Rattle.tq_model.specs.Grammar.{script_requests};
 ghost use Rattle.tq_model.specs.Reading.{site_found};
@@ -15,7 +17,7 @@ ghost use Rattle.tq_run.specs.Counts.{NoneRose, HasCounts, HasRunCounts};
 ghost use Rattle.tq_run.specs.Ending.{IsDone, IsUntouched, IsDamaged, FailsInLine0, IsComplete, status_for, trace_of};
 ghost use Rattle.tq_run.specs.Input.{IsRead};
 ghost use Rattle.tq_run.specs.Manager.{is_bootable};
-ghost use Rattle.tq_run.specs.Output.{TellsMore, HasBegun, KeepsInput};
+ghost use Rattle.tq_run.specs.Output.{TellsMore, HasBegun, BeginsAttached, KeepsInput};
 ghost use Rattle.tq_run.specs.Words.{device_word};
 
 use crate::devices::readiness;
@@ -23,7 +25,7 @@ use crate::manager::boot;
 use crate::script::read_script;
 use crate::serving::{give_answer, serve_lines};
 use crate::state::State;
-use crate::status::{Status, RunEnd};
+use crate::status::{RunEnd, Status};
 use crate::words::device_path;
 use std::alloc::Global;
 use tq_host::Host;
@@ -40,9 +42,8 @@ fn answer_script<H: Host>(
 ) -> Result<(), RunEnd>
     requires limit { 0 < limit }
     requires most { limit ≤ 4294967296 }
-    requires sound { IsWellFormed state.old }
     requires first { next_of state.old ≡ 0 }
-    requires holds { H.tells.reads → ReadMatches state.old ((H.view host.old).reads 0) }
+    requires on { StateImagesMatch state.old (H.view host.old) }
     ensures left { OnOk result (H.tells.script → (H.view host.new).streams.script ≡ []) }
     ensures reached { OnOk result (TellsAll H.tells → (o : Origin) (found : Site) (failed : Failures) (first : Request)
         → HasReached o found failed (first ∷ []) state.old (H.view host.old) → HasRun o found failed (first ∷ script_requests (H.view host.old).streams.script) state.new (H.view host.old) (H.view host.new)) }
@@ -50,7 +51,8 @@ fn answer_script<H: Host>(
         → HasReached o found failed (first ∷ []) state.old (H.view host.old) → RunsOver o found failed (first ∷ script_requests (H.view host.old).streams.script) (H.view host.old) (H.view host.new) }
     ensures told { H.tells.output → TellsMore (H.view host.old) (H.view host.new) }
     ensures much { result ≡ Err RunEnd.TooMuchInput → H.tells.output → (H.view host.new).streams.taken ≡ (H.view host.old).streams.taken + limit }
-    ensures less { (result ≢ Err RunEnd.TooMuchInput) → (result ≢ Err RunEnd.Memory) → H.tells.output → (H.view host.new).streams.taken < (H.view host.old).streams.taken + limit }
+    ensures less { (result ≢ Err RunEnd.TooMuchInput) → (result ≢ Err RunEnd.Memory) → H.tells.output
+        → (H.view host.new).streams.taken < (H.view host.old).streams.taken + limit }
     ensures most { H.tells.output → (H.view host.new).streams.taken ≤ (H.view host.old).streams.taken + limit }
     ensures later { (H.view host.old).faults ≤ (H.view host.new).faults }
     ensures counts { HasRunCounts result (H.view host.old) (H.view host.new) }
@@ -62,18 +64,24 @@ fn answer_script<H: Host>(
 
 // Line 0: a boot of what device 0 stands for.
 fn begin<H: Host>(alloc: Global, path: &str, host: &mut H) -> Result<State, RunEnd>
-    ensures sound { IfOk result IsWellFormed }
     ensures first { IfOk result (λ state. next_of state ≡ 0) }
-    ensures holds { IfOk result (λ state. H.tells.reads → ReadMatches state ((H.view host.new).reads 0)) }
-    ensures reached { IfOk result (λ state. TellsAll H.tells → (found : Site) → site_found 1 (H.view host.old).reads ≡ Some found → HasStarted found state (H.view host.old) (H.view host.new)) }
+    ensures on { IfOk result (λ state. StateImagesMatch state (H.view host.new)) }
+    ensures reached { IfOk result (λ state. TellsAll H.tells → (found : Site) → site_found 1 (H.view host.old).reads ≡ Some found
+        → HasStarted found state (H.view host.old) (H.view host.new)) }
     ensures stop { TellsAll H.tells → IsSettled 0 (H.view host.old) → (found : Site) → site_found 1 (H.view host.old).reads ≡ Some found → can_boot found ≡ true
         → RunsOver (origin_of (H.view host.old)) found none_failed (requests.Boot ∷ []) (H.view host.old) (H.view host.new) }
     ensures damaged { result ≡ Err RunEnd.Damaged → H.tells.reads → is_bootable (site_found 1 (H.view host.old).reads) ≡ false }
     ensures untouched { result ≡ Err RunEnd.Damaged → IsUntouched (H.view host.old) (H.view host.new) }
-    ensures bootable { (result ≢ Err RunEnd.Damaged) → (result ≢ Err RunEnd.Device) → (result ≢ Err RunEnd.Memory) → H.tells.reads → is_bootable (site_found 1 (H.view host.old).reads) ≡ true }
+    ensures bootable { (result ≢ Err RunEnd.Damaged) → (result ≢ Err RunEnd.Device) → (result ≢ Err RunEnd.Memory) → H.tells.reads
+        → is_bootable (site_found 1 (H.view host.old).reads) ≡ true }
+    ensures left_alone { H.tells.reads → is_bootable (site_found 1 (H.view host.old).reads) ≡ false
+        → Within 0 IsSameImage IsAny (H.view host.old) (H.view host.new) }
+    ensures attached { H.tells.output → BeginsAttached (path.now ∷ []) (H.view host.old) (H.view host.new) }
     ensures told { H.tells.output → TellsMore (H.view host.old) (H.view host.new) }
     ensures begun { OnOk result (H.tells.output → HasBegun (H.view host.old) (H.view host.new)) }
-    ensures calm { OnErr result ((result ≢ Err RunEnd.Device) → H.tells.output → (added : List Stamp) → (H.view host.new).streams.stamps ≡ (H.view host.old).streams.stamps ++ added → rose_at (trace_of (H.view host.old) (H.view host.new) added) 0 ≡ false) }
+    ensures calm { OnErr result ((result ≢ Err RunEnd.Device) → H.tells.output → (added : List Stamp)
+        → (H.view host.new).streams.stamps ≡ (H.view host.old).streams.stamps ++ added
+        → rose_at (trace_of (H.view host.old) (H.view host.new) added) 0 ≡ false) }
     ensures silent { result ≡ Err RunEnd.Device → (H.view host.new).streams.output ≡ (H.view host.old).streams.output }
     ensures input { KeepsInput (H.view host.old) (H.view host.new) }
     ensures counts { HasCounts result (H.view host.old) (H.view host.new) }
@@ -89,17 +97,23 @@ fn begin<H: Host>(alloc: Global, path: &str, host: &mut H) -> Result<State, RunE
 fn attend<H: Host>(alloc: Global, path: &str, host: &mut H, limit: u64) -> Result<(), RunEnd>
     requires some { 0 < limit }
     requires most { limit ≤ 4294967296 }
-    ensures done { OnOk result (TellsAll H.tells → (found : Site) → site_found 1 (H.view host.old).reads ≡ Some found → IsDone (H.view host.old) (H.view host.new) found) }
+    ensures done { OnOk result (TellsAll H.tells → (found : Site) → site_found 1 (H.view host.old).reads ≡ Some found
+        → IsDone (H.view host.old) (H.view host.new) found) }
     ensures damaged { result ≡ Err RunEnd.Damaged → H.tells.reads → is_bootable (site_found 1 (H.view host.old).reads) ≡ false }
     ensures untouched { result ≡ Err RunEnd.Damaged → IsUntouched (H.view host.old) (H.view host.new) }
-    ensures bootable { (result ≢ Err RunEnd.Damaged) → (result ≢ Err RunEnd.Device) → (result ≢ Err RunEnd.Memory) → H.tells.reads → is_bootable (site_found 1 (H.view host.old).reads) ≡ true }
+    ensures bootable { (result ≢ Err RunEnd.Damaged) → (result ≢ Err RunEnd.Device) → (result ≢ Err RunEnd.Memory) → H.tells.reads
+        → is_bootable (site_found 1 (H.view host.old).reads) ≡ true }
     ensures line_0 { H.tells.output → FailsInLine0 (result ≡ Err RunEnd.Device) (H.view host.old) (H.view host.new) }
     ensures silent { result ≡ Err RunEnd.Device → (H.view host.new).streams.output ≡ (H.view host.old).streams.output }
     ensures much { result ≡ Err RunEnd.TooMuchInput → H.tells.output → (H.view host.new).streams.taken ≡ (H.view host.old).streams.taken + limit }
-    ensures less { (result ≢ Err RunEnd.TooMuchInput) → (result ≢ Err RunEnd.Memory) → H.tells.output → (H.view host.new).streams.taken < (H.view host.old).streams.taken + limit }
+    ensures less { (result ≢ Err RunEnd.TooMuchInput) → (result ≢ Err RunEnd.Memory) → H.tells.output
+        → (H.view host.new).streams.taken < (H.view host.old).streams.taken + limit }
     ensures most { H.tells.output → (H.view host.new).streams.taken ≤ (H.view host.old).streams.taken + limit }
     ensures stop { TellsAll H.tells → IsSettled 0 (H.view host.old) → (found : Site) → site_found 1 (H.view host.old).reads ≡ Some found → can_boot found ≡ true
         → RunsOver (origin_of (H.view host.old)) found none_failed (requests.Boot ∷ script_requests (H.view host.old).streams.script) (H.view host.old) (H.view host.new) }
+    ensures left_alone { H.tells.reads → is_bootable (site_found 1 (H.view host.old).reads) ≡ false
+        → Within 0 IsSameImage IsAny (H.view host.old) (H.view host.new) }
+    ensures attached { H.tells.output → BeginsAttached (path.now ∷ []) (H.view host.old) (H.view host.new) }
     ensures told { H.tells.output → TellsMore (H.view host.old) (H.view host.new) }
     ensures counts { HasRunCounts result (H.view host.old) (H.view host.new) }
 {
@@ -122,24 +136,35 @@ fn status_of(ending: Result<(), RunEnd>) -> Status
     }
 }
 
-// A run that reads at most `limit` bytes.
+/// The run that `run` is, with another limit: it takes at most `limit` bytes of the script.
 pub fn run_within<H: Host>(alloc: Global, words: &[String], host: &mut H, limit: u64) -> Status
     requires some { 0 < limit }
     requires most { limit ≤ 4294967296 }
     ensures usage { (result ≡ Status.Usage) ↔ (device_word (map string_bytes words.now) ≡ None) }
     ensures nothing_else { result ≡ Status.Usage → host.new ≡ host.old }
     ensures damaged { (d : ℕ) → result ≡ Status.Damaged d → IsDamaged H.tells d (H.view host.old) (H.view host.new) }
-    ensures damaged_always { result ≢ Status.Usage → H.tells.reads → is_bootable (site_found 1 (H.view host.old).reads) ≡ false → (Rose (H.view host.old).faults (H.view host.new).faults → ⊥) → (result ≡ Status.Damaged 0) ⊎ (result ≡ Status.NoMemory) }
+    ensures damaged_always { result ≢ Status.Usage → H.tells.reads → is_bootable (site_found 1 (H.view host.old).reads) ≡ false
+        → (Rose (H.view host.old).faults (H.view host.new).faults → ⊥) → (result ≡ Status.Damaged 0) ⊎ (result ≡ Status.NoMemory) }
+    ensures bootable { result ≢ Status.Usage → ((d : ℕ) → result ≢ Status.Damaged d) → result ≢ Status.DeviceFault → result ≢ Status.NoMemory
+        → H.tells.reads → is_bootable (site_found 1 (H.view host.old).reads) ≡ true }
+    ensures left_alone { H.tells.reads → is_bootable (site_found 1 (H.view host.old).reads) ≡ false → IsLeftAlone (H.view host.old) (H.view host.new) }
+    ensures attached { H.tells.output → (path : List ℕ) → device_word (map string_bytes words.now) ≡ Some path
+        → BeginsAttached (path ∷ []) (H.view host.old) (H.view host.new) }
     ensures read_fault { HasCauseOf (result ≡ Status.ReadFault) (H.view host.old).streams.input_faults (H.view host.new).streams.input_faults }
     ensures write_fault { HasCauseOf (result ≡ Status.WriteFault) (H.view host.old).streams.output_faults (H.view host.new).streams.output_faults }
-    ensures device_fault { result ≡ Status.DeviceFault → Rose (H.view host.old).faults (H.view host.new).faults × ((H.view host.new).streams.output ≡ (H.view host.old).streams.output) }
+    ensures device_fault { result ≡ Status.DeviceFault
+        → Rose (H.view host.old).faults (H.view host.new).faults × ((H.view host.new).streams.output ≡ (H.view host.old).streams.output) }
     ensures line_0 { H.tells.output → FailsInLine0 (result ≡ Status.DeviceFault) (H.view host.old) (H.view host.new) }
     ensures too_much { result ≡ Status.TooMuchInput → H.tells.output → (H.view host.new).streams.taken ≡ (H.view host.old).streams.taken + limit }
-    ensures too_much_always { H.tells.output → (H.view host.new).streams.taken ≡ (H.view host.old).streams.taken + limit → (result ≡ Status.TooMuchInput) ⊎ (result ≡ Status.NoMemory) }
+    ensures too_much_always { H.tells.output → (H.view host.new).streams.taken ≡ (H.view host.old).streams.taken + limit
+        → (result ≡ Status.TooMuchInput) ⊎ (result ≡ Status.NoMemory) }
     ensures most { H.tells.output → (H.view host.new).streams.taken ≤ (H.view host.old).streams.taken + limit }
-    ensures done { result ≡ Status.Done → TellsAll H.tells → (found : Site) → site_found 1 (H.view host.old).reads ≡ Some found → IsDone (H.view host.old) (H.view host.new) found }
-    ensures stop { TellsAll H.tells → IsSettled 0 (H.view host.old) → (found : Site) → site_found 1 (H.view host.old).reads ≡ Some found → can_boot found ≡ true → IsCrashSafe (H.view host.old) (H.view host.new) found }
-    ensures complete { result ≢ Status.Usage → H.tells.reads → is_bootable (site_found 1 (H.view host.old).reads) ≡ true → NoneRose (H.view host.old) (H.view host.new) → IsComplete result }
+    ensures done { result ≡ Status.Done → TellsAll H.tells → (found : Site) → site_found 1 (H.view host.old).reads ≡ Some found
+        → IsDone (H.view host.old) (H.view host.new) found }
+    ensures stop { TellsAll H.tells → IsSettled 0 (H.view host.old) → (found : Site) → site_found 1 (H.view host.old).reads ≡ Some found
+        → can_boot found ≡ true → IsCrashSafe (H.view host.old) (H.view host.new) found }
+    ensures complete { result ≢ Status.Usage → H.tells.reads → is_bootable (site_found 1 (H.view host.old).reads) ≡ true
+        → NoneRose (H.view host.old) (H.view host.new) → IsComplete result }
 {
     match device_path(words) {
         None => Status::Usage,
@@ -161,28 +186,43 @@ pub fn run<H: Host>(alloc: Global, words: &[String], host: &mut H) -> Status
 
     // The device's bytes have no reading, or its epoch cannot be raised; nothing is written then.
     ensures damaged { (d : ℕ) → result ≡ Status.Damaged d → IsDamaged H.tells d (H.view host.old) (H.view host.new) }
-    ensures damaged_always { result ≢ Status.Usage → H.tells.reads → is_bootable (site_found 1 (H.view host.old).reads) ≡ false → (Rose (H.view host.old).faults (H.view host.new).faults → ⊥) → (result ≡ Status.Damaged 0) ⊎ (result ≡ Status.NoMemory) }
+    ensures damaged_always { result ≢ Status.Usage → H.tells.reads → is_bootable (site_found 1 (H.view host.old).reads) ≡ false
+        → (Rose (H.view host.old).faults (H.view host.new).faults → ⊥) → (result ≡ Status.Damaged 0) ⊎ (result ≡ Status.NoMemory) }
+
+    // Where the device stands for no site that can be booted, nothing is written and nothing given, whatever the status.
+    ensures bootable { result ≢ Status.Usage → ((d : ℕ) → result ≢ Status.Damaged d) → result ≢ Status.DeviceFault → result ≢ Status.NoMemory
+        → H.tells.reads → is_bootable (site_found 1 (H.view host.old).reads) ≡ true }
+    ensures left_alone { H.tells.reads → is_bootable (site_found 1 (H.view host.old).reads) ≡ false → IsLeftAlone (H.view host.old) (H.view host.new) }
+
+    // Where line 0 was given, the device was attached by its word then.
+    ensures attached { H.tells.output → (path : List ℕ) → device_word (map string_bytes words.now) ≡ Some path
+        → BeginsAttached (path ∷ []) (H.view host.old) (H.view host.new) }
 
     // The input or the output failed, exactly where its count rose; or a device, before anything was given.
     ensures read_fault { HasCauseOf (result ≡ Status.ReadFault) (H.view host.old).streams.input_faults (H.view host.new).streams.input_faults }
     ensures write_fault { HasCauseOf (result ≡ Status.WriteFault) (H.view host.old).streams.output_faults (H.view host.new).streams.output_faults }
-    ensures device_fault { result ≡ Status.DeviceFault → Rose (H.view host.old).faults (H.view host.new).faults × ((H.view host.new).streams.output ≡ (H.view host.old).streams.output) }
+    ensures device_fault { result ≡ Status.DeviceFault
+        → Rose (H.view host.old).faults (H.view host.new).faults × ((H.view host.new).streams.output ≡ (H.view host.old).streams.output) }
     ensures line_0 { H.tells.output → FailsInLine0 (result ≡ Status.DeviceFault) (H.view host.old) (H.view host.new) }
 
     // 4,294,967,296 bytes were taken, and the script did not end before.
     ensures too_much { result ≡ Status.TooMuchInput → H.tells.output → (H.view host.new).streams.taken ≡ (H.view host.old).streams.taken + 4294967296 }
-    ensures too_much_always { H.tells.output → (H.view host.new).streams.taken ≡ (H.view host.old).streams.taken + 4294967296 → (result ≡ Status.TooMuchInput) ⊎ (result ≡ Status.NoMemory) }
+    ensures too_much_always { H.tells.output → (H.view host.new).streams.taken ≡ (H.view host.old).streams.taken + 4294967296
+        → (result ≡ Status.TooMuchInput) ⊎ (result ≡ Status.NoMemory) }
     ensures most { H.tells.output → (H.view host.new).streams.taken ≤ (H.view host.old).streams.taken + 4294967296 }
 
     // The whole run is the machine's.
-    ensures done { result ≡ Status.Done → TellsAll H.tells → (found : Site) → site_found 1 (H.view host.old).reads ≡ Some found → IsDone (H.view host.old) (H.view host.new) found }
+    ensures done { result ≡ Status.Done → TellsAll H.tells → (found : Site) → site_found 1 (H.view host.old).reads ≡ Some found
+        → IsDone (H.view host.old) (H.view host.new) found }
 
     // At every stop within the run, the device stands for the machine with faults after some number of whole lines, as many
     // as were answered or one more, and the output is a first part of the text of these.
-    ensures stop { TellsAll H.tells → IsSettled 0 (H.view host.old) → (found : Site) → site_found 1 (H.view host.old).reads ≡ Some found → can_boot found ≡ true → IsCrashSafe (H.view host.old) (H.view host.new) found }
+    ensures stop { TellsAll H.tells → IsSettled 0 (H.view host.old) → (found : Site) → site_found 1 (H.view host.old).reads ≡ Some found
+        → can_boot found ≡ true → IsCrashSafe (H.view host.old) (H.view host.new) found }
 
     // Where nothing stands against it, the run is done.
-    ensures complete { result ≢ Status.Usage → H.tells.reads → is_bootable (site_found 1 (H.view host.old).reads) ≡ true → NoneRose (H.view host.old) (H.view host.new) → IsComplete result }
+    ensures complete { result ≢ Status.Usage → H.tells.reads → is_bootable (site_found 1 (H.view host.old).reads) ≡ true
+        → NoneRose (H.view host.old) (H.view host.new) → IsComplete result }
 {
     run_within(alloc, words, host, MOST_INPUT)
 }

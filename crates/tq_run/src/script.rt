@@ -23,7 +23,8 @@ fn take_some<H: Host>(host: &mut H, script: &mut Vec<u8>, room: u64) -> Result<u
     ensures images { HasNoNewImage (H.view host.old) (H.view host.new) }
     ensures counts { HasCounts result (H.view host.old) (H.view host.new) }
     ensures two { IfErr result (λ e. (e ≢ RunEnd.Memory) → e ≡ RunEnd.Input) }
-    ensures memory { result ≡ Err RunEnd.Memory → H.tells.output → (n : ℕ) × (n ≤ room) × ((H.view host.new).streams.taken ≡ (H.view host.old).streams.taken + n) }
+    ensures memory { result ≡ Err RunEnd.Memory → H.tells.output
+        → (n : ℕ) × (n ≤ room) × ((H.view host.new).streams.taken ≡ (H.view host.old).streams.taken + n) }
 {
     let mut buffer = [0u8; BUFFER];
     let size = if room < BUFFER as u64 {

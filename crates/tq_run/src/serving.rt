@@ -1,29 +1,29 @@
 ghost use Rattle.std.specs.Prelude.{◌≡◌, ◌≢◌, ◌<◌, ◌≤◌, ◌+◌, ◌++◌, [], ◌∷◌, List, ℕ, length, IfOk, IfErr, OnOk};
 ghost use Rattle.tq_host.specs.View.{TellsAll};
 ghost use Rattle.tq_host.specs.Calls.{IsGiven, IsGiving};
-ghost use Rattle.tq_host.specs.Within.{KeepsRest, Within, Ran};
+ghost use Rattle.tq_host.specs.Within.{Ran};
 ghost use Rattle.tq_model.specs.declared.request.Request.{Request};
 ghost use Rattle.tq_model.specs.declared.request.CallRequest.{CallRequest};
 ghost use Rattle.tq_model.specs.MachineWithFaults.{Failures};
 ghost use Rattle.tq_model.specs.Step.{step};
 ghost use Rattle.tq_model.specs.Text.{line_text};
 ghost use Rattle.tq_model.specs.Grammar.{line_request, script_requests};
-ghost use Rattle.tq_device.specs.Content.{IsAnyStep};
 ghost use Rattle.tq_run.specs.Counts.{HasCounts, HasRunCounts};
-ghost use Rattle.tq_run.specs.Stops.{ImagesMatch, HasNoNewImage, IsEither};
+ghost use Rattle.tq_run.specs.Stops.{ImagesMatch, HasNoNewImage};
 ghost use Rattle.tq_run.specs.Turns.{Origin, RunsOver};
-ghost use Rattle.tq_run.specs.Standing.{IsWellFormed, next_of, ReadMatches, HasReached, HasRun};
-ghost use Rattle.tq_run.specs.Manager.{site_of, ImageMatches, IsFit};
+ghost use Rattle.tq_run.specs.Standing.{next_of, StateImagesMatch, HasReached, HasRun};
+ghost use Rattle.tq_run.specs.Manager.{site_of};
+ghost use Rattle.tq_run.specs.Serving.{IsServed, ChangesOnce, CountsFailure};
 ghost use Rattle.tq_run.specs.Output.{TellsMore, KeepsInput};
 ghost use Rattle.tq_model.specs.Site.{Site};
 
 use crate::calls::serve_call;
 use crate::devices::serve_device;
-use crate::manager::Manager;
 use crate::responding::respond;
+use crate::site::Manager;
 use crate::spaces::serve_space;
 use crate::state::State;
-use crate::status::RunEnd;
+use crate::status::{Failure, RunEnd};
 use std::alloc::Global;
 use tq_host::Host;
 use tq_model::{Answer, Request};
@@ -56,21 +56,14 @@ fn serve_other<H: Host>(
     host: &mut H,
     manager: &mut Manager,
     request: &Request,
-) -> Result<Answer, RunEnd>
+) -> Result<Answer, Failure>
     requires boot { request.now ≢ Request.Boot }
     requires other { (call : CallRequest) → request.now ≢ Request.Call call }
-    requires fit { IsFit manager.old }
-    requires holds { H.tells.reads → ImageMatches manager.old ((H.view host.old).reads 0) }
-    ensures answer { IfOk result (λ a. a ≡ (step (site_of manager.old) request.now).answer) }
-    ensures site { OnOk result (site_of manager.new ≡ (step (site_of manager.old) request.now).site) }
-    ensures next { OnOk result (manager.new.next ≤ manager.old.next + 1) }
-    ensures fit { OnOk result (IsFit manager.new) }
-    ensures holds { OnOk result (H.tells.reads → ImageMatches manager.new ((H.view host.new).reads 0)) }
-    ensures stop { ImagesMatch manager.old (H.view host.old) → Within 0 IsAnyStep (IsEither (site_of manager.old) (step (site_of manager.old) request.now).site) (H.view host.old) (H.view host.new) }
-    ensures images { OnOk result (H.tells.reads → ImagesMatch manager.old (H.view host.old) → ImagesMatch manager.new (H.view host.new)) }
-    ensures counts { HasCounts result (H.view host.old) (H.view host.new) }
-    ensures rest { KeepsRest 0 (H.view host.old) (H.view host.new) }
-    ensures two { IfErr result (λ e. (e ≢ RunEnd.Memory) → e ≡ RunEnd.Device) }
+    requires next { manager.old.next < 4294967295 }
+    requires on { ImagesMatch manager.old (H.view host.old) }
+    ensures served { IfOk result (IsServed (step (site_of manager.old) request.now) manager.old manager.new (H.view host.new)) }
+    ensures stop { ChangesOnce (step (site_of manager.old) request.now) manager.old (H.view host.old) (H.view host.new) }
+    ensures failed { CountsFailure result (H.view host.old).faults (H.view host.new).faults }
 {
     match request {
         Request::Nothing => Ok(Answer::Done),
@@ -88,21 +81,13 @@ pub fn serve<H: Host>(
     host: &mut H,
     manager: &mut Manager,
     request: Request,
-) -> Result<Answer, RunEnd>
+) -> Result<Answer, Failure>
     requires boot { request ≢ Request.Boot }
-    requires fit { IsFit manager.old }
     requires next { manager.old.next < 4294967295 }
-    requires holds { H.tells.reads → ImageMatches manager.old ((H.view host.old).reads 0) }
-    ensures answer { IfOk result (λ a. a ≡ (step (site_of manager.old) request).answer) }
-    ensures site { OnOk result (site_of manager.new ≡ (step (site_of manager.old) request).site) }
-    ensures next { OnOk result (manager.new.next ≤ manager.old.next + 1) }
-    ensures fit { OnOk result (IsFit manager.new) }
-    ensures holds { OnOk result (H.tells.reads → ImageMatches manager.new ((H.view host.new).reads 0)) }
-    ensures stop { H.tells.reads → ImagesMatch manager.old (H.view host.old) → Within 0 IsAnyStep (IsEither (site_of manager.old) (step (site_of manager.old) request).site) (H.view host.old) (H.view host.new) }
-    ensures images { OnOk result (H.tells.reads → ImagesMatch manager.old (H.view host.old) → ImagesMatch manager.new (H.view host.new)) }
-    ensures counts { HasCounts result (H.view host.old) (H.view host.new) }
-    ensures rest { KeepsRest 0 (H.view host.old) (H.view host.new) }
-    ensures two { IfErr result (λ e. (e ≢ RunEnd.Memory) → e ≡ RunEnd.Device) }
+    requires on { ImagesMatch manager.old (H.view host.old) }
+    ensures served { IfOk result (IsServed (step (site_of manager.old) request) manager.old manager.new (H.view host.new)) }
+    ensures stop { ChangesOnce (step (site_of manager.old) request) manager.old (H.view host.old) (H.view host.new) }
+    ensures failed { CountsFailure result (H.view host.old).faults (H.view host.new).faults }
 {
     if let Request::Call(call) = request {
         return serve_call(alloc, host, manager, call);
@@ -118,12 +103,10 @@ fn serve_line<H: Host>(
     number: u64,
     line: &[u8],
 ) -> Result<(), RunEnd>
-    requires sound { IsWellFormed state.old }
     requires next { next_of state.old < 4294967295 }
-    requires holds { H.tells.reads → ReadMatches state.old ((H.view host.old).reads 0) }
-    ensures sound { OnOk result (IsWellFormed state.new) }
+    requires on { StateImagesMatch state.old (H.view host.old) }
     ensures next { OnOk result (next_of state.new ≤ next_of state.old + 1) }
-    ensures holds { OnOk result (H.tells.reads → ReadMatches state.new ((H.view host.new).reads 0)) }
+    ensures on { OnOk result (StateImagesMatch state.new (H.view host.new)) }
     ensures reached { OnOk result (TellsAll H.tells → (o : Origin) (found : Site) (failed : Failures) (done : List Request) → number ≡ length done
         → HasReached o found failed done state.old (H.view host.old) → HasRun o found failed (done ++ line_request line.now ∷ []) state.new (H.view host.old) (H.view host.new)) }
     ensures stop { TellsAll H.tells → (o : Origin) (found : Site) (failed : Failures) (done : List Request) → number ≡ length done
@@ -146,9 +129,8 @@ pub fn serve_lines<H: Host>(
     state: &mut State,
     script: &[u8],
 ) -> Result<(), RunEnd>
-    requires sound { IsWellFormed state.old }
     requires numbers { next_of state.old + length script.now ≤ 4294967295 }
-    requires holds { H.tells.reads → ReadMatches state.old ((H.view host.old).reads 0) }
+    requires on { StateImagesMatch state.old (H.view host.old) }
     ensures reached { OnOk result (TellsAll H.tells → (o : Origin) (found : Site) (failed : Failures) (first : Request)
         → HasReached o found failed (first ∷ []) state.old (H.view host.old) → HasRun o found failed (first ∷ script_requests script.now) state.new (H.view host.old) (H.view host.new)) }
     ensures stop { TellsAll H.tells → (o : Origin) (found : Site) (failed : Failures) (first : Request)

@@ -5,21 +5,23 @@ ghost use Rattle.tq_model.specs.Space.{overhead_pages};
 ghost use Rattle.tq_model.specs.Step.{space_step, create_space, create_queue, space_refusal, field_refused, pages_asked, shape_asked, pages_refusal, placing_refusal};
 ghost use Rattle.tq_host.specs.View.{IsSettled};
 ghost use Rattle.tq_device.specs.Content.{IsAnyStep, HasContent, entered};
-ghost use Rattle.tq_run.specs.Counts.{HasCounts};
-ghost use Rattle.tq_run.specs.Stops.{ImagesMatch, IsEither};
-ghost use Rattle.tq_run.specs.Manager.{site_of, volume_in, ImageMatches, IsFit};
+ghost use Rattle.tq_host.specs.Calls.{HasCause};
+ghost use Rattle.tq_run.specs.Stops.{ImagesMatch};
+ghost use Rattle.tq_run.specs.Manager.{site_of, volume_in};
+ghost use Rattle.tq_run.specs.Serving.{IsServed, ChangesOnce, CountsFailure};
 ghost use Rattle.tq_run.specs.Spaces.{IsShape, IsAdmitted, HasNewSpace, IsBareOrNew};
 
+use crate::calls::call_space;
 use crate::devices::{capacity_of, clusters_for, has_space};
-use crate::manager::Manager;
-use crate::queues::create_queue;
-use crate::status::RunEnd;
+use crate::planning::SpaceCall;
+use crate::site::Manager;
+use crate::status::Failure;
 use std::alloc::Global;
 use tq_device::{DeviceContent, enter, grow};
-use tq_host::Host;
+use tq_host::{Failed, Host};
 use tq_model::{
-    Answer, ClusterRoom, DeviceAnswer, Field, NewSpace, Shape, SpaceAnswer, SpaceCreation,
-    SpacePages, SpaceRequest, overhead_pages,
+    Answer, ClusterRoom, DeviceAnswer, Field, NewSpace, QueueCreation, Shape, SpaceAnswer,
+    SpaceCreation, SpacePages, SpaceRequest, overhead_pages,
 };
 use tq_spacefile::{SpaceFile, SpacePlace, format};
 use tq_types::Name;
@@ -134,7 +136,6 @@ fn pages_of(creation: &SpaceCreation) -> SpacePages
 
 // What the device holds, where nothing refuses the space; else the first reason.
 fn admitted(manager: &Manager, creation: &SpaceCreation) -> Result<DeviceContent, Answer>
-    requires { IsFit manager.now }
     ensures refused { IfErr result (λ answer. space_refusal creation.now (site_of manager.now) ≡ Some answer) }
     ensures admitted { IfOk result (λ d. IsAdmitted manager.now creation.now d) }
 {
@@ -162,7 +163,7 @@ fn lay_out<H: Host>(
     content: &DeviceContent,
     name: Name,
     shape: &Shape,
-) -> Result<DeviceContent, RunEnd>
+) -> Result<DeviceContent, Failed>
     requires shape { IsShape shape.now }
     requires bare { content.now.named ≡ None }
     requires ordinals { content.now.next_space < 268435455 }
@@ -173,14 +174,13 @@ fn lay_out<H: Host>(
     ensures settled { OnOk result (IsSettled 0 (H.view host.new)) }
     ensures stop { ((c : List ℕ) → (H.view host.old).may_leave 0 c → HasContent content.now c)
         → Within 0 IsAnyStep (IsBareOrNew content.now name shape.now) (H.view host.old) (H.view host.new) }
-    ensures counts { HasCounts result (H.view host.old) (H.view host.new) }
     ensures rest { KeepsRest 0 (H.view host.old) (H.view host.new) }
-    ensures only { IfErr result (λ e. e ≡ RunEnd.Device) }
+    ensures failed { HasCause (H.view host.old).faults (H.view host.new).faults result }
 {
     let end = HEADER_BYTES + CLUSTER_BYTES * u64::from(clusters_for(shape.pages));
-    grow(host, 0, end).map_err(|_| RunEnd::Device)?;
-    format(host, 0, shape).map_err(|_| RunEnd::Device)?;
-    enter(host, 0, content, name, shape.pages).map_err(|_| RunEnd::Device)
+    grow(host, 0, end)?;
+    format(host, 0, shape)?;
+    enter(host, 0, content, name, shape.pages)
 }
 
 // Makes a space, where nothing refuses it.
@@ -190,20 +190,12 @@ fn make_space<H: Host>(
     manager: &mut Manager,
     content: &DeviceContent,
     creation: &SpaceCreation,
-) -> Result<Answer, RunEnd>
+) -> Result<Answer, Failed>
     requires admitted { IsAdmitted manager.old creation.now content.now }
-    requires fit { IsFit manager.old }
-    requires holds { H.tells.reads → ImageMatches manager.old ((H.view host.old).reads 0) }
-    ensures answer { IfOk result (λ a. a ≡ (create_space creation.now (site_of manager.old)).answer) }
-    ensures site { OnOk result (site_of manager.new ≡ (create_space creation.now (site_of manager.old)).site) }
-    ensures next { OnOk result (manager.new.next ≡ manager.old.next) }
-    ensures fit { OnOk result (IsFit manager.new) }
-    ensures holds { OnOk result (H.tells.reads → ImageMatches manager.new ((H.view host.new).reads 0)) }
-    ensures stop { ImagesMatch manager.old (H.view host.old) → Within 0 IsAnyStep (IsEither (site_of manager.old) (create_space creation.now (site_of manager.old)).site) (H.view host.old) (H.view host.new) }
-    ensures images { OnOk result (H.tells.reads → ImagesMatch manager.old (H.view host.old) → ImagesMatch manager.new (H.view host.new)) }
-    ensures counts { HasCounts result (H.view host.old) (H.view host.new) }
-    ensures rest { KeepsRest 0 (H.view host.old) (H.view host.new) }
-    ensures only { IfErr result (λ e. e ≡ RunEnd.Device) }
+    requires on { ImagesMatch manager.old (H.view host.old) }
+    ensures served { IfOk result (IsServed (create_space creation.now (site_of manager.old)) manager.old manager.new (H.view host.new)) }
+    ensures stop { ChangesOnce (create_space creation.now (site_of manager.old)) manager.old (H.view host.old) (H.view host.new) }
+    ensures failed { HasCause (H.view host.old).faults (H.view host.new).faults result }
 {
     let shape = shape_of(creation);
     let number = 8 * content.next_space;
@@ -229,19 +221,11 @@ fn create_space<H: Host>(
     host: &mut H,
     manager: &mut Manager,
     creation: &SpaceCreation,
-) -> Result<Answer, RunEnd>
-    requires fit { IsFit manager.old }
-    requires holds { H.tells.reads → ImageMatches manager.old ((H.view host.old).reads 0) }
-    ensures answer { IfOk result (λ a. a ≡ (create_space creation.now (site_of manager.old)).answer) }
-    ensures site { OnOk result (site_of manager.new ≡ (create_space creation.now (site_of manager.old)).site) }
-    ensures next { OnOk result (manager.new.next ≡ manager.old.next) }
-    ensures fit { OnOk result (IsFit manager.new) }
-    ensures holds { OnOk result (H.tells.reads → ImageMatches manager.new ((H.view host.new).reads 0)) }
-    ensures stop { ImagesMatch manager.old (H.view host.old) → Within 0 IsAnyStep (IsEither (site_of manager.old) (create_space creation.now (site_of manager.old)).site) (H.view host.old) (H.view host.new) }
-    ensures images { OnOk result (H.tells.reads → ImagesMatch manager.old (H.view host.old) → ImagesMatch manager.new (H.view host.new)) }
-    ensures counts { HasCounts result (H.view host.old) (H.view host.new) }
-    ensures rest { KeepsRest 0 (H.view host.old) (H.view host.new) }
-    ensures only { IfErr result (λ e. e ≡ RunEnd.Device) }
+) -> Result<Answer, Failed>
+    requires on { ImagesMatch manager.old (H.view host.old) }
+    ensures served { IfOk result (IsServed (create_space creation.now (site_of manager.old)) manager.old manager.new (H.view host.new)) }
+    ensures stop { ChangesOnce (create_space creation.now (site_of manager.old)) manager.old (H.view host.old) (H.view host.new) }
+    ensures failed { HasCause (H.view host.old).faults (H.view host.new).faults result }
 {
     match admitted(manager, creation) {
         Err(refusal) => Ok(refusal),
@@ -255,22 +239,21 @@ pub fn serve_space<H: Host>(
     host: &mut H,
     manager: &mut Manager,
     request: &SpaceRequest,
-) -> Result<Answer, RunEnd>
-    requires fit { IsFit manager.old }
-    requires holds { H.tells.reads → ImageMatches manager.old ((H.view host.old).reads 0) }
-    ensures answer { IfOk result (λ a. a ≡ (space_step (site_of manager.old) request.now).answer) }
-    ensures site { OnOk result (site_of manager.new ≡ (space_step (site_of manager.old) request.now).site) }
-    ensures next { OnOk result (manager.new.next ≡ manager.old.next) }
-    ensures fit { OnOk result (IsFit manager.new) }
-    ensures holds { OnOk result (H.tells.reads → ImageMatches manager.new ((H.view host.new).reads 0)) }
-    ensures stop { ImagesMatch manager.old (H.view host.old) → Within 0 IsAnyStep (IsEither (site_of manager.old) (space_step (site_of manager.old) request.now).site) (H.view host.old) (H.view host.new) }
-    ensures images { OnOk result (H.tells.reads → ImagesMatch manager.old (H.view host.old) → ImagesMatch manager.new (H.view host.new)) }
-    ensures counts { HasCounts result (H.view host.old) (H.view host.new) }
-    ensures rest { KeepsRest 0 (H.view host.old) (H.view host.new) }
-    ensures two { IfErr result (λ e. (e ≢ RunEnd.Memory) → e ≡ RunEnd.Device) }
+) -> Result<Answer, Failure>
+    requires next { manager.old.next < 4294967295 }
+    requires on { ImagesMatch manager.old (H.view host.old) }
+    ensures served { IfOk result (IsServed (space_step (site_of manager.old) request.now) manager.old manager.new (H.view host.new)) }
+    ensures stop { ChangesOnce (space_step (site_of manager.old) request.now) manager.old (H.view host.old) (H.view host.new) }
+    ensures failed { CountsFailure result (H.view host.old).faults (H.view host.new).faults }
 {
     match request {
-        SpaceRequest::Create(creation) => create_space(alloc, host, manager, creation),
-        SpaceRequest::CreateQueue(creation) => create_queue(alloc, host, manager, creation),
+        SpaceRequest::Create(creation) => Ok(create_space(alloc, host, manager, creation)?),
+        SpaceRequest::CreateQueue(creation) => {
+            let call = SpaceCall::CreateQueue(QueueCreation {
+                space: creation.space,
+                queue: creation.queue,
+            });
+            call_space(alloc, host, manager, call)
+        }
     }
 }

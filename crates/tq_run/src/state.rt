@@ -1,4 +1,4 @@
-use crate::manager::Manager;
+use crate::site::Manager;
 
 /// The state of a run.
 #[derive(Drop)]

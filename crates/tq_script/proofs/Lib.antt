@@ -6,4 +6,5 @@ pub mod OfRows
 pub mod Positions
 pub mod Scans
 pub mod Spelt
+pub mod TextRuns
 pub mod Words

@@ -1,10 +1,12 @@
 -- How the words of a line go on behind its spaces and behind its first word.
-use Rattle.std.proofs.Common.{◌≡◌, ℕ, zero, suc, ◌+◌, ◌-◌, ◌<◌, ◌≤◌, ◌==◌, true, false, not, List, [], ◌∷◌, Some, length, take, drop, get_or, refl, ap, sym, ◌∙◌, inl, inr, arith, length-drop, add-zero}
+use Rattle.std.proofs.Common.{◌≡◌, ℕ, zero, suc, ◌+◌, ◌-◌, ◌<◌, ◌≤◌, ◌==◌, ◌||◌, Bool, true, false, not, List, [], ◌∷◌, Some, length, take, drop, refl, ap, sym, ◌∙◌, inl, inr, arith, length-drop, add-zero}
 use Rattle.std.proofs.lemmas.Bool.{cases_Bool}
-use Rattle.std.proofs.lemmas.List.{drop_all, at_drop_more, at_drop_all}
+use Rattle.std.proofs.lemmas.List.{drop_all}
+use Rattle.std.proofs.lemmas.List.Sums.{prefix_len-le-length}
 use Rattle.std.specs.List.{position, position_or_len}
+use Rattle.memchr.specs.Find.{is_byte2}
 use Rattle.tq_script.proofs.Positions.{position-some}
-use Rattle.tq_model.specs.Grammar.{Word, words_from, word_length, Place, Plain, ends_word, place_after}
+use Rattle.tq_model.specs.Grammar.{Word, words_from, word_length, Place, Plain, Quoted, Escaped}
 use Rattle.tq_script.specs.Cutting.{word_at, words_of}
 
 -- a space is passed over
@@ -99,18 +101,51 @@ words_of-first column bytes l =
 pub words_of-none : (column : ℕ) (bytes : List ℕ) → length bytes ≤ spaces bytes → words_of column bytes ≡ []
 words_of-none column bytes l = words_of-spaces column bytes ∙ ap (words_of (column + spaces bytes)) (drop_all (spaces bytes) bytes l)
 
--- A word goes on, or ends, at a byte.
-pub word_length-more : (place : Place) (bytes : List ℕ) (i : ℕ) → i < length bytes → ends_word place (get_or bytes i 0) ≡ false →
-    word_length place (drop i bytes) ≡ 1 + word_length (place_after place (get_or bytes i 0)) (drop (i + 1) bytes)
-word_length-more place bytes i l h = at_drop_more (word_length place) bytes i 0 l ∙ rw h (omega arith)
+-- A word goes on behind bytes that neither end it nor change the place.
+abbrev pub keeps : Place → ℕ → Bool
+keeps Plain b = not (b == 32 || b == 34)
+keeps Quoted b = not (b == 34 || b == 92)
+keeps Escaped b = false
 
-pub word_length-end : (place : Place) (bytes : List ℕ) (i : ℕ) → i < length bytes → ends_word place (get_or bytes i 0) ≡ true → word_length place (drop i bytes) ≡ 0
-word_length-end place bytes i l h = at_drop_more (word_length place) bytes i 0 l ∙ rw h refl
+word_length-kept : (place : Place) (b : ℕ) (bytes : List ℕ) → keeps place b ≡ true → word_length place (b ∷ bytes) ≡ suc (word_length place bytes)
+word_length-kept Plain b bytes h = elim (cases_Bool (b == 32)) [
+  | inl s ↦ let no : false ≡ true = rw s at h in absurd (cc)
+  | inr s ↦ elim (cases_Bool (b == 34)) [
+    | inl q ↦ let no : false ≡ true = rw (s, q) at h in absurd (cc)
+    | inr q ↦ rw (s, q) refl
+  ]
+]
+word_length-kept Quoted b bytes h = elim (cases_Bool (b == 34)) [
+  | inl q ↦ let no : false ≡ true = rw q at h in absurd (cc)
+  | inr q ↦ elim (cases_Bool (b == 92)) [
+    | inl s ↦ let no : false ≡ true = rw (q, s) at h in absurd (cc)
+    | inr s ↦ rw (s, q) refl
+  ]
+]
+word_length-kept Escaped b bytes h = let no : false ≡ true = h in absurd (cc)
 
-pub word_length-all : (place : Place) (bytes : List ℕ) (i : ℕ) → length bytes ≤ i → word_length place (drop i bytes) ≡ 0
-word_length-all place bytes i l = at_drop_all (word_length place) bytes i l
+-- up to the first of two bytes that alone do not
+module _ (place : Place) (one other : ℕ) (others : (b : ℕ) → keeps place b ≡ not (is_byte2 one other b)) where
+  word_length-run : (bytes : List ℕ) → word_length place bytes ≡ position_or_len (is_byte2 one other) bytes + word_length place (drop (position_or_len (is_byte2 one other) bytes) bytes)
+  word_length-run [] = refl
+  word_length-run (b ∷ bytes) = elim (cases_Bool (is_byte2 one other b)) [
+    | inl h ↦ rw h (omega arith)
+    | inr h ↦
+        let more : position_or_len (is_byte2 one other) (b ∷ bytes) ≡ suc (position_or_len (is_byte2 one other) bytes) = rw h (omega arith) in
+        let kept : keeps place b ≡ true = rw (others b, h) refl in
+        rw more (omega (arith, word_length-kept place b bytes kept, word_length-run bytes))
+  ]
 
-pub ruleset word_steps = (word_length-more, word_length-end, word_length-all)
+  word_length-behind : (bytes : List ℕ) →
+      word_length place bytes + length (drop (position_or_len (is_byte2 one other) bytes) bytes) ≡ length bytes + word_length place (drop (position_or_len (is_byte2 one other) bytes) bytes)
+  word_length-behind bytes =
+      omega (arith, word_length-run bytes, length-drop (position_or_len (is_byte2 one other) bytes) bytes, prefix_len-le-length (λ b. not (is_byte2 one other b)) bytes)
+
+pub behind_plain : (bytes rest : List ℕ) → rest ≡ drop (position_or_len (is_byte2 32 34) bytes) bytes → word_length Plain bytes + length rest ≡ length bytes + word_length Plain rest
+behind_plain bytes rest is = rw is (word_length-behind Plain 32 34 (λ b. refl) bytes)
+
+pub behind_quoted : (bytes rest : List ℕ) → rest ≡ drop (position_or_len (is_byte2 34 92) bytes) bytes → word_length Quoted bytes + length rest ≡ length bytes + word_length Quoted rest
+behind_quoted bytes rest is = rw is (word_length-behind Quoted 34 92 (λ b. refl) bytes)
 
 -- the same in steps: where the word begins, what stands from there on, how long it is, and what is left
 module _ (column : ℕ) (bytes : List ℕ) (i k : ℕ) (begun rest : List ℕ) (start : Some i ≡ position (λ (b : ℕ). not (b == 32)) bytes) (from : begun ≡ drop i bytes) (long : k ≡ word_length Plain begun) (left : rest ≡ drop k begun) where

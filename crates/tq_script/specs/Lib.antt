@@ -5,3 +5,4 @@ pub mod Numerals
 pub mod Places
 pub mod Reads
 pub mod Rows
+pub mod Runs

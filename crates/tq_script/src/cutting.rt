@@ -1,8 +1,12 @@
+//! The words of a line.
+
 ghost use Rattle.std.specs.Prelude.{◌≡◌, ◌+◌, ◌<◌, ◌≤◌, ◌∷◌, ◌==◌, [], length, drop, not, MatchOption, IfSome};
 ghost use Rattle.std.specs.List.{position};
 ghost use Rattle.tq_model.specs.Grammar.{longest_line, ends_word, place_after, word_length, Plain};
 ghost use Rattle.tq_script.specs.Cutting.{word_at, words_of};
 ghost use Rattle.tq_script.specs.Places.{place_of};
+
+use crate::bytes::skip_to_either;
 
 /// The most bytes of a line, its end left out.
 pub const LONGEST_LINE: usize = 262_144;
@@ -47,19 +51,33 @@ fn place_after(place: Place, byte: u8) -> Place
 }
 
 /// How many of the bytes belong to the word that begins with them.
-#[tactic(auto, using(crate::proofs::Words::word_steps))]
 fn word_length(bytes: &[u8]) -> usize
     ensures cut { result ≡ word_length Plain bytes.now }
     ensures within { result ≤ length bytes.now }
 {
     let mut place = Place::Plain;
-    for (at, byte) in bytes.iter().enumerate() {
+    let mut rest = skip_run(place, bytes);
+    while let [byte, behind @ ..] = rest {
         if ends_word(place, *byte) {
-            return at;
+            break;
         }
         place = place_after(place, *byte);
+        rest = skip_run(place, behind);
     }
-    bytes.len()
+    bytes.len() - rest.len()
+}
+
+/// What stands behind the bytes that neither end the word nor change the place.
+#[tactic(auto, using(crate::proofs::Words::behind_plain, crate::proofs::Words::behind_quoted))]
+fn skip_run(place: Place, bytes: &[u8]) -> &[u8]
+    ensures word { word_length (place_of place) bytes.now + length result.now ≡ length bytes.now + word_length (place_of place) result.now }
+    ensures shorter { length result.now ≤ length bytes.now }
+{
+    match place {
+        Place::Plain => skip_to_either(b' ', b'"', bytes),
+        Place::Quoted => skip_to_either(b'"', b'\\', bytes),
+        Place::Escaped => bytes,
+    }
 }
 
 /// Where the first byte stands that is no space.

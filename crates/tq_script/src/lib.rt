@@ -1,5 +1,7 @@
 //! Reads the lines of a script: which requests they spell, and where a line that spells none goes
 //! wrong.
+//!
+//! The layer above uses `first_line` and `parse`, which are exact against the grammar.
 #![tactic(auto)]
 
 mod bytes;

@@ -1,11 +1,12 @@
 //! Texts: bytes in quotes.
 
-ghost use Rattle.std.specs.Prelude.{◌≡◌, ◌∷◌, [], ◌<◌, ◌⊎◌, length, codes, if◌then◌else◌, Some, None, IfOk, IfSome, MatchOption};
+ghost use Rattle.std.specs.Prelude.{◌≡◌, ◌<◌, ◌≤◌, ◌++◌, length, option_map, if◌then◌else◌, Some, None, IfOk, IfSome, MatchOption};
 ghost use Rattle.std.specs.Char.{digit_value, is_ascii_hexdigit};
-ghost use Rattle.tq_model.specs.Grammar.{Backslash, Item, is_printable, text_from, text_of, with_text_byte};
+ghost use Rattle.tq_model.specs.Grammar.{Backslash, Item, text_from, text_of, with_text_byte};
+ghost use Rattle.tq_script.specs.Runs.{text_behind_run};
 
 use std::alloc::{AllocError, Global};
-use tq_types::Body;
+use tq_types::{Body, plain_run};
 
 /// The text that the word spells; None where it spells none.
 pub fn text_of(alloc: Global, word: &[u8]) -> Result<Option<Body>, AllocError>
@@ -21,30 +22,30 @@ pub fn text_of(alloc: Global, word: &[u8]) -> Result<Option<Body>, AllocError>
 fn read_quoted(alloc: Global, quoted: &[u8]) -> Result<Option<Body>, AllocError>
     ensures { IfOk result (λ text. text ≡ text_from Item quoted.now) }
 {
-    let mut text = Vec::new(alloc);
-    let mut rest = quoted;
-    while rest != b"\"".as_slice() {
-        let Some((byte, behind)) = split_item(rest) else {
+    let (run, mut rest) = split_run(quoted);
+    let mut text = Vec::from_slice(alloc, run)?;
+    while let [b'\\', escaped @ ..] = rest {
+        let Some((byte, behind)) = split_escaped(escaped) else {
             return Ok(None);
         };
         text.push(byte)?;
+        let (run, behind) = split_run(behind);
+        text.extend_from_slice(run)?;
         rest = behind;
     }
-    Ok(Some(Body::new(alloc, &text)?))
+    match rest {
+        [b'"'] => Ok(Some(Body::from_vec(text))),
+        _ => Ok(None),
+    }
 }
 
-/// The byte of the first item and what stands behind it; None where no item comes first.
-fn split_item(quoted: &[u8]) -> Option<(u8, &[u8])>
-    ensures item { MatchOption result ((text_from Item quoted.now ≡ None) ⊎ (quoted.now ≡ codes "\""))
-        (λ cut. text_from Item quoted.now ≡ with_text_byte cut.0 (text_from Item cut.1.now)) }
-    ensures shorter { IfSome result (λ cut. length cut.1.now < length quoted.now) }
+/// The bytes that spell themselves, up to the first that does not, and what stands behind them.
+#[tactic(auto, using(crate::proofs::TextRuns::run_steps))]
+fn split_run(quoted: &[u8]) -> (&[u8], &[u8])
+    ensures text { text_from Item quoted.now ≡ option_map (λ bytes. result.0.now ++ bytes) (text_behind_run result.1.now) }
+    ensures shorter { length result.1.now ≤ length quoted.now }
 {
-    match quoted {
-        [b'"', ..] => None,
-        [b'\\', escaped @ ..] => split_escaped(escaped),
-        [byte, rest @ ..] if is_printable(*byte) => Some((*byte, rest)),
-        _ => None,
-    }
+    quoted.split_at(plain_run(quoted))
 }
 
 /// The byte that is spelt behind a backslash and what stands behind it.
@@ -62,12 +63,6 @@ fn split_escaped(escaped: &[u8]) -> Option<(u8, &[u8])>
         }
         _ => None,
     }
-}
-
-fn is_printable(byte: u8) -> bool
-    ensures { result ≡ is_printable byte }
-{
-    (b' '..=b'~').contains(&byte)
 }
 
 /// The value of a hexadecimal digit.

@@ -10,4 +10,5 @@ pub mod Counts
 pub mod Steps
 pub mod Taken
 pub mod PlanMoves
+pub mod LogLemmas
 pub mod Indices

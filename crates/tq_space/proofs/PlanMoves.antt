@@ -19,6 +19,7 @@ use Rattle.tq_model.specs.Moves.{IndexedQueue, IndexedSpace, space_of, indexed_h
 use Rattle.tq_model.specs.EnqueueStep.{quality, next_id}
 use Rattle.tq_model.specs.SpaceForm.{id_in, plain_entry, move_of, holds_arrival}
 use Rattle.tq_model.specs.Step.{enqueue_call}
+use Rattle.tq_model.specs.SpaceLog.{arrival_of}
 use Rattle.tq_model.specs.Plain.{HasOnlySurvivors, KeepsAllAtCrash, AllIds, IsOwn}
 use Rattle.tq_space.specs.declared.plans.Plan.{Plan}
 use Rattle.tq_space.specs.Planned.{IsInsertOf, IsRemovalOf, IsAmong}
@@ -67,9 +68,6 @@ insert_recorded words ask held plan is_call plain insert =
     let persistent : quality ask.call.qos queue.queue.qos ≡ Persistent = ap (λ (call : EnqueueCall). quality call.qos queue.queue.qos) is_call ∙ of_queue in
     insert.moves ∙ ap (λ (qos : Qos). Insert (entry_of ask queue.index qos id) ∷ []) persistent
     ∙ ap (λ e. Insert e ∷ []) (entry_plain words ask queue.index id is_call)
-
-abbrev pub arrival_of : MsgId → Arrival
-arrival_of id = record { epoch = id.epoch; number = id.number }
 
 pub removal_recorded : (ask : DequeueAsk) (held : IndexedSpace) (plan : Plan) → ask.call.peek ≡ false → IsOwn held
     → (removal : IsRemovalOf ask held plan)

@@ -133,13 +133,14 @@ module _ (held : IndexedSpace) (lasting : HasNoExpirations held.queues) (call : 
 
   pub enqueue_refused : (next : Arrival) (answer : CallAnswer) (purge : List MsgId) → purge ≡ [] → enqueue_refusal (space_of held) call clock ≡ Some answer
       → (enqueue_refusal (space_of held) call clock ≡ Some answer) × (answer ≡ (enqueue_step (space_of held) call clock next).answer)
-      × (space_of (purged_of purge held) ≡ (enqueue_step (space_of held) call clock next).space)
+      × (space_of (purged_of purge held) ≡ (enqueue_step (space_of held) call clock next).space) × (purge ≡ [])
   enqueue_refused next answer purge nothing refused =
       let s = purged clock (space_of held) in
       let step : enqueue_step (space_of held) call clock next ≡ record { space = s; answer = answer } = ap (λ (r : Option CallAnswer). unless_refused r s (enqueued s call next)) refused in (
         refused,
         sym (ap (λ (o : CallOutcome). o.answer) step),
         ap (λ (p : List MsgId). space_of (purged_of p held)) nothing ∙ sym (ap (λ (o : CallOutcome). o.space) step ∙ purged_same clock held lasting),
+        nothing,
       )
 
   pub refused_badly : find (indexed_named call.queue) held.queues ≡ None → enqueue_refusal (space_of held) call clock ≡ Some BadQueue
@@ -231,11 +232,12 @@ module _ (held : IndexedSpace) (lasting : HasNoExpirations held.queues) (call : 
 pub dequeue_refused : (held : IndexedSpace) (call : DequeueCall) (clock : ℕ) (answer : CallAnswer) (purge : List MsgId) → purge ≡ []
     → dequeue_refusal (space_of held) call clock ≡ Some answer → dequeue_step (space_of held) call clock ≡ record { space = space_of held; answer = answer }
     → (dequeue_refusal (space_of held) call clock ≡ Some answer) × (answer ≡ (dequeue_step (space_of held) call clock).answer)
-    × (space_of (purged_of purge held) ≡ (dequeue_step (space_of held) call clock).space)
+    × (space_of (purged_of purge held) ≡ (dequeue_step (space_of held) call clock).space) × (purge ≡ [])
 dequeue_refused held call clock answer purge nothing refused step = (
   refused,
   sym (ap (λ (o : CallOutcome). o.answer) step),
   ap (λ (p : List MsgId). space_of (purged_of p held)) nothing ∙ sym (ap (λ (o : CallOutcome). o.space) step),
+  nothing,
 )
 
 pub dequeue_planned : (held : IndexedSpace) (call : DequeueCall) (clock : ℕ) (item : Entry) (plan : Plan)

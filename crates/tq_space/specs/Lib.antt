@@ -9,4 +9,5 @@ pub mod Reads
 pub mod Reading
 pub mod SpaceView
 pub mod Planned
+pub mod Loggable
 pub mod NewEntry

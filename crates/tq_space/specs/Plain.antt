@@ -2,9 +2,10 @@
 use Rattle.std.specs.Prelude.{◌≡◌, ◌≢◌, ℕ, ◌+◌, ◌≤◌, true, false, List, [], ◌∷◌, length, Option, Some, None}
 use Rattle.std.specs.List.{All, list_any, find}
 use Rattle.tq_types.specs.declared.messages.Mark.TheVariants.{Free}
-use Rattle.tq_types.specs.declared.messages.AskedQos.TheVariants.{NonPersistent}
+use Rattle.tq_types.specs.declared.messages.AskedQos.TheVariants.{Default, NonPersistent}
 use Rattle.tq_types.specs.declared.messages.Entry.{Entry}
 use Rattle.tq_model.specs.declared.calls.Place.TheVariants.{Plain}
+use Rattle.tq_model.specs.declared.calls.EnqueueCall.{EnqueueCall}
 use Rattle.tq_model.specs.declared.calls.EnqueueAsk.{EnqueueAsk}
 use Rattle.tq_model.specs.declared.calls.DequeueAsk.{DequeueAsk}
 use Rattle.tq_model.specs.declared.space.Change.{Change}
@@ -73,3 +74,14 @@ CanMove (DropQueue index) s = CanDrop index s
 abbrev pub CanMoveBy : List SpaceMove → IndexedSpace → Type 0
 CanMoveBy [] s = Unit {0}
 CanMoveBy (move ∷ moves) s = CanMove move s × CanMoveBy moves (moved move s)
+
+-- an enqueue that asks for nothing but its message: no placement, time or quality, and no field of the message beside its body
+pub record IsBareEnqueue (call : EnqueueCall) : Type 0 where
+  pub priority : call.priority ≡ 50
+  pub available : call.available ≡ 0
+  pub expiration : call.expiration ≡ None
+  pub corr : call.corr ≡ None
+  pub replyq : call.replyq ≡ None
+  pub failq : call.failq ≡ None
+  pub qos : call.qos ≡ Default
+  pub reply_qos : call.reply_qos ≡ Default

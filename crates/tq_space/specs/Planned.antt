@@ -25,11 +25,11 @@ pub record IsPlanOf (outcome : CallOutcome) (held : IndexedSpace) (plan : Plan) 
   pub space : space_of (plan_applied plan held) ≡ outcome.space
   pub can : CanMoveBy plan.moves (purged_of plan.purge held)
 
--- a plan exactly where the step has no refusal, and else that refusal and the purge
+-- a plan exactly where the step has no refusal, and else that refusal and the purge, which drops nothing while no entry expires
 abbrev pub MeetsStep : Result Plan Refusal → CallOutcome → Option CallAnswer → IndexedSpace → Type 0
 MeetsStep (Ok plan) outcome refusal held = IsPlanOf outcome held plan × (refusal ≡ None)
 MeetsStep (Err (Refused answer purge)) outcome refusal held =
-    (refusal ≡ Some answer) × (answer ≡ outcome.answer) × (space_of (purged_of purge held) ≡ outcome.space)
+    (refusal ≡ Some answer) × (answer ≡ outcome.answer) × (space_of (purged_of purge held) ≡ outcome.space) × (purge ≡ [])
 MeetsStep (Err NoMemory) outcome refusal held = Unit {0}
 
 -- the call is refused by the step

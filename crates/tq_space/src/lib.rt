@@ -1,5 +1,7 @@
-//! One queue space in memory: what an enqueue or a dequeue would make of it is a plan, and a plan
-//! whose room is reserved is applied without memory.
+//! One queue space in memory: what a call would make of it is a plan, and a plan whose room is
+//! reserved is applied without memory.
+//!
+//! The layer above uses `Space`: its `plan_*` are the machine's steps, `reserve` and `apply` do a plan.
 #![tactic(auto)]
 
 mod plans;

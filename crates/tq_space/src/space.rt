@@ -6,10 +6,13 @@ ghost use Rattle.tq_space.specs.Reads.{indexed_named};
 ghost use Rattle.tq_model.specs.Room.{pages_for, pages_at, messages_held, pages_held, message_rooms, first_lacking};
 ghost use Rattle.tq_model.specs.EnqueueStep.{quality, next_id, enqueue_step, enqueue_refusal};
 ghost use Rattle.tq_model.specs.DequeueStep.{dequeue_step, dequeue_refusal, delivered, content_bytes};
-ghost use Rattle.tq_model.specs.SpaceForm.{holds_arrival, holds_name, empty_space};
-ghost use Rattle.tq_space.specs.Plain.{IsPlainEnqueue, IsPlainDequeue, CanInsert, CanReplace, CanDrop, CanMove, CanMoveBy};
+ghost use Rattle.tq_model.specs.SpaceForm.{holds_arrival, holds_name, empty_space, added_length, gone_length, made_length};
+ghost use Rattle.tq_model.specs.Plain.{KeepsAllAtCrash, IsOwn};
+ghost use Rattle.tq_types.specs.declared.identifiers.Arrival.{Arrival};
+ghost use Rattle.tq_space.specs.Plain.{IsPlainEnqueue, IsPlainDequeue, IsBareEnqueue, CanInsert, CanReplace, CanDrop, CanMove, CanMoveBy};
 ghost use Rattle.tq_space.specs.Applied.{plan_applied};
 ghost use Rattle.tq_space.specs.Planned.{MeetsStep, IsRefused, IsInsertOf, IsRemovalOf, MeetsCreation};
+ghost use Rattle.tq_space.specs.Loggable.{IsDurable};
 ghost use Rattle.tq_space.specs.NewEntry.{entry_of, rooms};
 
 use crate::plans::{Moves, Plan, Purge, QueueRefusal, Refusal};
@@ -18,7 +21,7 @@ use std::alloc::{AllocError, Global};
 use std::marker::Model;
 use tq_model::{
     CallAnswer, Change, Delivery, DequeueAsk, DequeueCall, EnqueueAsk, QueueDef, Shape, SpaceMove,
-    message_pages, overhead_pages, pages_for, default_queue,
+    default_queue, message_pages, overhead_pages, pages_for,
 };
 use tq_types::{
     Arrival, AskedQos, Body, Entry, Label, Lack, Mark, Message, MsgId, Name, Path, Qos, Resource,
@@ -104,11 +107,11 @@ fn first_lack(
 }
 
 /// The entry of an enqueue that is granted.
-fn new_entry(ask: &EnqueueAsk, index: u16, qos: Qos, id: MsgId) -> Result<Entry, AllocError>
-    ensures { IfOk result (λ e. e ≡ entry_of ask.now index qos id) }
+fn new_entry(ask: EnqueueAsk, index: u16, qos: Qos, id: MsgId) -> Entry
+    ensures { result ≡ entry_of ask index qos id }
 {
-    let call = &ask.call;
-    Ok(Entry {
+    let call = ask.call;
+    Entry {
         queue: index,
         label: Label {
             root: Root {
@@ -133,9 +136,9 @@ fn new_entry(ask: &EnqueueAsk, index: u16, qos: Qos, id: MsgId) -> Result<Entry,
             reply_qos: call.reply_qos,
             urcode: 0,
             retries: 0,
-            body: call.body.copy()?,
+            body: call.body,
         },
-    })
+    }
 }
 
 /// A plan of one move at most.
@@ -245,17 +248,21 @@ impl Space {
     }
 
     /// What an enqueue makes of the space: a plan exactly where the machine's step refuses nothing,
-    /// else that refusal. Nothing is changed.
+    /// else that refusal. Nothing is changed. The body is moved into the plan.
     ///
     /// # Errors
     /// `BadQueue` where there is no such queue, `NoSpace` with the first resource that is lacking.
-    pub fn plan_enqueue(&self, alloc: Global, ask: &EnqueueAsk) -> Result<Plan, Refusal>
-        requires plain { IsPlainEnqueue ask.now }
-        requires checked { length ask.now.call.body ≤ 65536 }
-        ensures step { MeetsStep result (enqueue_step (space_of self.now.held) ask.now.call ask.now.clock ask.now.next) (enqueue_refusal (space_of self.now.held) ask.now.call ask.now.clock) self.now.held }
+    pub fn plan_enqueue(&self, alloc: Global, ask: EnqueueAsk) -> Result<Plan, Refusal>
+        requires plain { IsPlainEnqueue ask }
+        requires checked { length ask.call.body ≤ 65536 }
+        ensures step { MeetsStep result (enqueue_step (space_of self.now.held) ask.call ask.clock ask.next)
+            (enqueue_refusal (space_of self.now.held) ask.call ask.clock) self.now.held }
         // the condition under which no refusal comes
-        ensures granted { enqueue_refusal (space_of self.now.held) ask.now.call ask.now.clock ≡ None → IsRefused result → ⊥ }
-        ensures moves { IfOk result (λ plan. IsInsertOf ask.now self.now.held plan) }
+        ensures granted { enqueue_refusal (space_of self.now.held) ask.call ask.clock ≡ None → IsRefused result → ⊥ }
+        ensures moves { IfOk result (λ plan. IsInsertOf ask self.now.held plan) }
+        // what its log takes
+        ensures durable { IsBareEnqueue ask.call → KeepsAllAtCrash self.now.held
+            → IfOk result (IsDurable ask.next (added_length ask.call.body) 1 self.now.held) }
     {
         let Some(queue) = self.shelf.named(&ask.call.queue) else {
             return Err(Refusal::Refused(CallAnswer::BadQueue, Purge::new(alloc)));
@@ -265,10 +272,8 @@ impl Space {
             return Err(Refusal::Refused(CallAnswer::NoSpace(lack), Purge::new(alloc)));
         }
         let id = self.id_of(ask.next);
-        let Ok(entry) = new_entry(ask, queue.index, qos, id) else {
-            return Err(Refusal::NoMemory);
-        };
         let answer = CallAnswer::Enqueued(asked_id(ask.call.want_id, id));
+        let entry = new_entry(ask, queue.index, qos, id);
         let Ok(plan) = plan_of(alloc, Some(SpaceMove::Insert(entry)), Some(answer)) else {
             return Err(Refusal::NoMemory);
         };
@@ -282,10 +287,13 @@ impl Space {
     /// `BadQueue` where there is no such queue, `NoMessage` where no entry answers the call.
     pub fn plan_dequeue(&self, alloc: Global, ask: &DequeueAsk) -> Result<Plan, Refusal>
         requires plain { IsPlainDequeue ask.now }
-        ensures step { MeetsStep result (dequeue_step (space_of self.now.held) ask.now.call ask.now.clock) (dequeue_refusal (space_of self.now.held) ask.now.call ask.now.clock) self.now.held }
+        ensures step { MeetsStep result (dequeue_step (space_of self.now.held) ask.now.call ask.now.clock)
+            (dequeue_refusal (space_of self.now.held) ask.now.call ask.now.clock) self.now.held }
         // the condition under which no refusal comes
         ensures granted { dequeue_refusal (space_of self.now.held) ask.now.call ask.now.clock ≡ None → IsRefused result → ⊥ }
         ensures moves { IfOk result (λ plan. IsRemovalOf ask.now self.now.held plan) }
+        // what its log takes
+        ensures durable { ask.now.call.peek ≡ false → IsOwn self.now.held → (next : Arrival) → IfOk result (IsDurable next gone_length 0 self.now.held) }
     {
         let Some(_queue) = self.shelf.named(&ask.call.queue) else {
             return Err(Refusal::Refused(CallAnswer::BadQueue, Purge::new(alloc)));
@@ -310,7 +318,9 @@ impl Space {
     /// `Taken` where a queue has the name, else `QueueFull` with the limit where there are as many
     /// queues.
     pub fn plan_queue(&self, alloc: Global, name: &Name) -> Result<Plan, QueueRefusal>
-        ensures { MeetsCreation result name.now self.now.held }
+        ensures creation { MeetsCreation result name.now self.now.held }
+        // what its log takes
+        ensures durable { (next : Arrival) → IfOk result (IsDurable next (made_length name.now) 0 self.now.held) }
     {
         if self.has_queue_named(name) {
             return Err(QueueRefusal::Taken);
@@ -496,7 +506,8 @@ impl Space {
 
     /// Whether there is room for one persistent message more, with a body of so many bytes.
     pub fn has_room_for(&self, body: usize) -> bool
-        ensures { result ≡ (nat_lt (messages_held (space_of self.now.held)) self.now.held.limits.messages && nat_le (pages_held (space_of self.now.held) + pages_for body) self.now.held.limits.pages) }
+        ensures { result ≡ (nat_lt (messages_held (space_of self.now.held)) self.now.held.limits.messages && nat_le
+            (pages_held (space_of self.now.held) + pages_for body) self.now.held.limits.pages) }
     {
         let pages = u64::from(self.limits.pages) - self.pages;
         self.messages < u64::from(self.limits.messages) && pages_for(body) <= pages

@@ -3,7 +3,7 @@ use Rattle.std.proofs.Common.{◌≡◌, inl, inr, ⊎_elim, ◌<◌, ◌≤◌,
 use Rattle.std.specs.Option.{option_map}
 use Rattle.tq_host.specs.View.{Told, View, IsLawful, IsSettled}
 use Rattle.tq_host.specs.Within.{Within}
-use Rattle.tq_host.proofs.Within.{read_too, starts, wider}
+use Rattle.tq_host.proofs.Within.{read_too, wider}
 use Rattle.tq_gate.specs.declared.layout.Layout.{Layout}
 use Rattle.tq_gate.specs.declared.log.GateLog.{GateLog}
 use Rattle.tq_gate.specs.Layout.{log_address, log_length}
@@ -15,7 +15,7 @@ use Rattle.tq_model.specs.declared.space.SpaceMove.{SpaceMove}
 use Rattle.tq_model.specs.Moves.{IndexedSpace, moved_by, purged_of}
 use Rattle.tq_model.specs.Plain.{IsOwn}
 use Rattle.tq_model.specs.SpaceForm.{log_bytes, spelt, can_follow}
-use Rattle.tq_model.specs.Reading.{space_start}
+use Rattle.tq_spacefile.proofs.LogicalBytes.{space_start}
 use Rattle.tq_model.proofs.RecordMoves.{ids_added, ids_gone, ids_made}
 use Rattle.tq_types.specs.declared.identifiers.MsgId.{MsgId}
 use Rattle.tq_space.specs.declared.plans.Plan.{Plan}
@@ -27,7 +27,6 @@ use Rattle.tq_spacefile.specs.Payload.{IsPayloadOf}
 use Rattle.tq_spacefile.specs.Place.{log_layout}
 use Rattle.tq_spacefile.specs.Record.{IsRecorded, with_record}
 use Rattle.tq_spacefile.specs.File.{HasSpace, IsSameButSpace, IsFile, AreFile, IsOldOrLogged, place_in, held_in, logged_in}
-use Rattle.tq_spacefile.proofs.Formats.{same_space_steps}
 use Rattle.tq_spacefile.proofs.Logs.{content_with, content_some, payloads_some}
 use Rattle.tq_spacefile.proofs.Files.{space_parts, space_same, space_more}
 
@@ -55,7 +54,7 @@ module _ (s : IndexedSpace) (plan : Plan) (r : SpaceRecord) (is : IsRecorded s p
 -- ---- on the device
 
 module _ (f : SpaceFile) where
-  own_dev : f.log.layout.dev ≡ f.place.dev
+  pub own_dev : f.log.layout.dev ≡ f.place.dev
   own_dev = ap (λ (l : Layout). l.dev) f.layout
 
   first_byte : space_start + 1024 ≤ log_address f.log.layout f.log.area 0
@@ -97,22 +96,19 @@ module _ (f : SpaceFile) where
       let is = are image (subst (λ n. v.may_leave n image) own_dev may) in
       record { holds = is.log.content; is = is.log.log }
 
-  -- before the first call
-  pub not_begun : (epoch : ℕ) (r : SpaceRecord) (v : View) → AreFile f epoch v → Within (place_in f).dev IsSameButSpace (IsOldOrLogged (place_in f) epoch (held_in f) (logged_in f) r) v v
-  not_begun epoch r v are = starts (place_in f).dev IsSameButSpace same_space_steps (IsOldOrLogged (place_in f) epoch (held_in f) (logged_in f) r) v (λ image may. inl (are image may).has)
-
   -- each picture within the call has the space, before the record or with it
-  pub stops : {tells : Told} (epoch : ℕ) (r : SpaceRecord) (payload : List ℕ) (before after : View) → IsLawful tells before → IsPayloadOf r payload → can_follow epoch (held_in f) r ≡ true → AreFile f epoch before
+  pub stops : {tells : Told} (epoch : ℕ) (r : SpaceRecord) (payload : List ℕ) (before after : View) → IsLawful tells before → IsPayloadOf r payload
+      → ((image : List ℕ) → before.may_leave (place_in f).dev image → IsFile f epoch image × (can_follow epoch (held_in f) r ≡ true))
       → Within f.log.layout.dev (IsSameButLog f.log) (IsOldOrNew f.log before payload) before after
       → Within (place_in f).dev IsSameButSpace (IsOldOrLogged (place_in f) epoch (held_in f) (logged_in f) r) before after
-  stops epoch r payload before after lawful spells can are within =
+  stops epoch r payload before after lawful spells ready within =
       let dev = f.log.layout.dev in
       let P = IsOldOrLogged (place_in f) epoch (held_in f) (logged_in f) r in
-      let file : (image : List ℕ) → before.may_leave dev image → IsFile f epoch image = λ image may. are image (subst (λ n. before.may_leave n image) own_dev may) in
+      let here : (image : List ℕ) → before.may_leave dev image → IsFile f epoch image × (can_follow epoch (held_in f) r ≡ true) = λ image may. ready image (subst (λ n. before.may_leave n image) own_dev may) in
       let left : (b c : List ℕ) → before.may_leave dev b → IsOldOrNew f.log before payload c → P c = λ b c may is.
       ⊎_elim
-      (λ old. inl (still_space epoch old.was c (file old.was old.left) old.frame old.reads))
-      (λ new. inr (more_space epoch r payload (before.reads dev) c spells can (file (before.reads dev) (read_too before lawful dev b may)) new.frame new.reads))
+      (λ old. inl (still_space epoch old.was c (here old.was old.left).0 old.outside old.reads))
+      (λ new. let read = here (before.reads dev) (read_too before lawful dev b may) in inr (more_space epoch r payload (before.reads dev) c spells read.1 read.0 new.outside new.reads))
       is in
       subst (λ n. Within n IsSameButSpace P before after) own_dev
       (wider dev (IsSameButLog f.log) IsSameButSpace (IsOldOrNew f.log before payload) P before after (λ b c may same is. (space_frame b c same, left b c may is)) within)
@@ -144,11 +140,12 @@ module _ (f : SpaceFile) where
 
     -- and so has each image
     pub logged_files : {tells : Told} (epoch : ℕ) (old new : View) → IsLawful tells old → IsLawful tells new → IsSettled f.log.layout.dev new
-        → (tells.reads → IsFile f epoch (old.reads f.place.dev) → IsFile g epoch (new.reads f.place.dev)) → AreFile f epoch old → AreFile g epoch new
-    logged_files epoch old new lawful_old lawful_new settled done are = λ image may.
+        → (tells.reads → IsFile f epoch (old.reads f.place.dev) × (can_follow epoch (held_in f) r ≡ true) → IsFile g epoch (new.reads f.place.dev))
+        → ((image : List ℕ) → old.may_leave f.place.dev image → IsFile f epoch image × (can_follow epoch (held_in f) r ≡ true)) → AreFile g epoch new
+    logged_files epoch old new lawful_old lawful_new settled done ready = λ image may.
         let dev = f.place.dev in
         let here : new.may_leave dev image = subst (λ n. new.may_leave n image) (ap (λ (p : SpacePlace). p.dev) place) may in
         let stops = lawful_new.stops_told dev image here in
         let at : new.may_leave f.log.layout.dev image = subst (λ n. new.may_leave n image) (sym own_dev) here in
         let is_read : image ≡ new.reads dev = settled image at ∙ ap (λ n. new.reads n) own_dev in
-        subst (λ (c : List ℕ). IsFile g epoch c) (sym is_read) (done (lawful_new.reads_told stops) (are (old.reads dev) (lawful_old.reads_an_image stops dev)))
+        subst (λ (c : List ℕ). IsFile g epoch c) (sym is_read) (done (lawful_new.reads_told stops) (ready (old.reads dev) (lawful_old.reads_an_image stops dev)))

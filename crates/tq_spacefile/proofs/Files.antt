@@ -20,37 +20,29 @@ use Rattle.tq_model.specs.Space.{overhead_pages}
 use Rattle.tq_model.specs.Moves.{IndexedSpace}
 use Rattle.tq_model.specs.Plain.{HasEpochs}
 use Rattle.tq_model.specs.SpaceForm.{RawSpace, raw_space, shape_of, error_name, log_bytes, spelt, record_in, can_follow, replayed, empty_space}
-use Rattle.tq_model.specs.Reading.{page_tests, hold_all, space_start, log_start, payloads_in, space_in, Replayed}
+use Rattle.tq_model.specs.Reading.{page_tests, hold_all, payloads_in, space_in, Replayed}
 use Rattle.tq_model.proofs.NameTests.{name_from_test}
 use Rattle.tq_model.proofs.Replays.{followed_from, replayed_more, replayed_later, replayed_epochs, empty_ids}
 use Rattle.tq_spacefile.specs.declared.place.SpacePlace.{SpacePlace}
 use Rattle.tq_spacefile.specs.declared.file.SpaceFile.{SpaceFile}
-use Rattle.tq_spacefile.specs.Place.{space_end, IsPlace, log_layout}
+use Rattle.tq_spacefile.specs.Place.{space_end, space_bytes, page_of, IsPlace, log_layout}
 use Rattle.tq_spacefile.specs.Page.{are_limits, is_error}
 use Rattle.tq_spacefile.specs.File.{HasSpace, IsFormatted, IsFile, place_in, held_in, logged_in, log_of}
 use Rattle.tq_spacefile.specs.Record.{with_record}
-use Rattle.tq_spacefile.proofs.Pages.{raw_space-run_at, is_first_page, page_tests_are}
+use Rattle.tq_spacefile.proofs.LogicalBytes.{space_start, page-same, log-same}
+use Rattle.tq_spacefile.proofs.Pages.{is_first_page, page_tests_are}
 use Rattle.tq_spacefile.proofs.Logs.{content_with, content_some, log_reach}
 
 -- ---- the first page
 
-named_short : (size : ℕ) (error : List ℕ) → is_error (if size == 0 then None else Some error) ≡ true → (size ≡ 0) ⊎ (length error ≤ 15)
-named_short size error is = elim (cases_zero size) [
-  | inl zero ↦ inl zero
-  | inr some ↦ inr (name_from_test error (sym (ap (λ (t : Bool). is_error (if t then None else Some error)) some) ∙ is)).most
-]
-  where
-    cases_zero : (n : ℕ) → (n ≡ 0) ⊎ ((n == 0) ≡ false)
-    cases_zero n = grind (arith, nat_tests)
-
 -- where the tests of a first page hold, the space has pages, and its name is short
-page_creation : (pages : ℕ) (r : RawSpace) → hold_all (page_tests space_start pages r) ≡ true → (are_limits (shape_of pages r) ≡ true) × (is_error (error_name r) ≡ true)
+page_creation : (pages : ℕ) (r : RawSpace) → hold_all (page_tests pages r) ≡ true → (are_limits (shape_of pages r) ≡ true) × (is_error (error_name r) ≡ true)
 page_creation pages r holds =
-    let first : is_first_page pages r ≡ true = sym (page_tests_are space_start pages r) ∙ holds in
+    let first : is_first_page pages r ≡ true = sym (page_tests_are pages r) ∙ holds in
     let creation = (and_parts (bytes_eq r.mark (codes "TQSPROV1") && (r.version == 1)) (are_limits (shape_of pages r) && is_error (error_name r)) first).1 in
     and_parts (are_limits (shape_of pages r)) (is_error (error_name r)) creation
 
-pub some_pages : (pages : ℕ) (r : RawSpace) → hold_all (page_tests space_start pages r) ≡ true → 1 ≤ pages
+pub some_pages : (pages : ℕ) (r : RawSpace) → hold_all (page_tests pages r) ≡ true → 1 ≤ pages
 some_pages pages r holds =
     let q = nat_le 1 r.queues && nat_le r.queues 256 in
     let m = nat_le 1 r.messages && nat_le r.messages 8192 in
@@ -59,25 +51,11 @@ some_pages pages r holds =
     let more = ltb-true over pages (and_parts (q && m && t && nat_le r.memory 16777216) (nat_lt over pages) (page_creation pages r holds).0).1 in
     omega arith
 
-pub name_size : (pages : ℕ) (image : List ℕ) → space_start + 1024 ≤ length image → hold_all (page_tests space_start pages (raw_space space_start image)) ≡ true → get_or image (space_start + 24) 0 ≤ 15
-name_size pages image long holds =
-    let r = raw_space space_start image in
-    let named = (page_creation pages r holds).1 in
-    ⊎_elim (λ zero. omega arith) (λ short. omega (arith, length-take r.error_size (drop (space_start + 25) image), length-drop (space_start + 25) image)) (named_short r.error_size r.error named)
-
--- the first page says the same where its bytes are the same
-pub raw_same : (pages : ℕ) (a b : List ℕ) → space_start + 1024 ≤ length a → length b ≡ length a → hold_all (page_tests space_start pages (raw_space space_start a)) ≡ true
-    → ((i : ℕ) → space_start ≤ i → i < space_start + 1024 → get_or b i 0 ≡ get_or a i 0) → raw_space space_start b ≡ raw_space space_start a
-raw_same pages a b long size holds same =
-    let small = name_size pages a long holds in
-    let other : get_or b (space_start + 24) 0 ≡ get_or a (space_start + 24) 0 = same (space_start + 24) (omega arith) (omega arith) in
-    sym (raw_space-run_at space_start 1024 b (omega (arith, other))) ∙ ap (raw_space 0) (run_at-same space_start 1024 a b long size same) ∙ raw_space-run_at space_start 1024 a (omega arith)
-
 -- ---- the reading of a space, by its payloads
 
 -- the space before its first record
 abbrev pub start_in : SpacePlace → List ℕ → IndexedSpace
-start_in place image = empty_space (shape_of place.pages (raw_space space_start image)) place.site place.number
+start_in place image = empty_space (shape_of place.pages (raw_space (page_of place.pages image))) place.site place.number
 
 abbrev replayed_to : List (List ℕ) → IndexedSpace → Replayed
 replayed_to payloads space = record { payloads = payloads; space = space }
@@ -104,17 +82,17 @@ read_from epoch start o ps held is replays =
     ap (read_by epoch start) is ∙ ap (option_map (replayed_to ps)) replays
 
 -- where there are no payloads, or they cannot be replayed, there is no reading
-pub unread : (epoch : ℕ) (place : SpacePlace) (image : List ℕ) → payloads_in place.pages image ≡ None → space_in place.site place.number epoch place.pages image ≡ None
+pub unread : (epoch : ℕ) (place : SpacePlace) (image : List ℕ) → payloads_in place.pages (space_bytes place.pages image) ≡ None → space_in place.site place.number epoch place.pages (space_bytes place.pages image) ≡ None
 unread epoch place image none = ap (read_by epoch (start_in place image)) none
 
-pub unreplayed : (epoch : ℕ) (place : SpacePlace) (image : List ℕ) (ps : List (List ℕ)) → payloads_in place.pages image ≡ Some ps → replayed epoch ps (start_in place image) ≡ None
-    → space_in place.site place.number epoch place.pages image ≡ None
+pub unreplayed : (epoch : ℕ) (place : SpacePlace) (image : List ℕ) (ps : List (List ℕ)) → payloads_in place.pages (space_bytes place.pages image) ≡ Some ps → replayed epoch ps (start_in place image) ≡ None
+    → space_in place.site place.number epoch place.pages (space_bytes place.pages image) ≡ None
 unreplayed epoch place image ps is none = ap (read_by epoch (start_in place image)) is ∙ ap (option_map (replayed_to ps)) none
 
 module _ (place : SpacePlace) (epoch : ℕ) (held : IndexedSpace) (logged : ℕ) (image : List ℕ) (has : HasSpace place epoch held logged image) where
   -- the payloads, and what they make
-  pub space_parts : (payloads_in place.pages image ≡ Some has.payloads) × (replayed epoch has.payloads (start_in place image) ≡ Some held)
-  space_parts = read_parts epoch (start_in place image) (payloads_in place.pages image) has.payloads held has.reads
+  pub space_parts : (payloads_in place.pages (space_bytes place.pages image) ≡ Some has.payloads) × (replayed epoch has.payloads (start_in place image) ≡ Some held)
+  space_parts = read_parts epoch (start_in place image) (payloads_in place.pages (space_bytes place.pages image)) has.payloads held has.reads
 
   -- What a space was is so in a later epoch.
   pub has_space_later : (later : ℕ) → epoch ≤ later → HasSpace place later held logged image
@@ -122,36 +100,36 @@ module _ (place : SpacePlace) (epoch : ℕ) (held : IndexedSpace) (logged : ℕ)
     reach = has.reach;
     page = has.page;
     payloads = has.payloads;
-    reads = read_from later (start_in place image) (payloads_in place.pages image) has.payloads held space_parts.0 (replayed_later epoch later has.payloads (start_in place image) held le space_parts.1);
+    reads = read_from later (start_in place image) (payloads_in place.pages (space_bytes place.pages image)) has.payloads held space_parts.0 (replayed_later epoch later has.payloads (start_in place image) held le space_parts.1);
     ends = has.ends;
   }
 
   pub has_space_epochs : HasEpochs epoch held
-  has_space_epochs = replayed_epochs epoch has.payloads (start_in place image) held (empty_ids (λ id. id.epoch ≤ epoch) (shape_of place.pages (raw_space space_start image)) place.site place.number) space_parts.1
+  has_space_epochs = replayed_epochs epoch has.payloads (start_in place image) held (empty_ids (λ id. id.epoch ≤ epoch) (shape_of place.pages (raw_space (page_of place.pages image))) place.site place.number) space_parts.1
 
   -- another image with the same first page, and other payloads
   pub space_with : (ps : List (List ℕ)) (s : IndexedSpace) (new : List ℕ) → length new ≡ length image → ((i : ℕ) → space_start ≤ i → i < space_start + 1024 → get_or new i 0 ≡ get_or image i 0)
-      → payloads_in place.pages new ≡ Some ps → replayed epoch ps (start_in place image) ≡ Some s → HasSpace place epoch s (end_of ps) new
+      → payloads_in place.pages (space_bytes place.pages new) ≡ Some ps → replayed epoch ps (start_in place image) ≡ Some s → HasSpace place epoch s (end_of ps) new
   space_with ps s new size page read replays =
-      let some = some_pages place.pages (raw_space space_start image) has.page in
-      let raw : raw_space space_start new ≡ raw_space space_start image = raw_same place.pages image new (omega (arith, has.reach)) size has.page page in
-      let start : start_in place new ≡ start_in place image = ap (λ (r : RawSpace). empty_space (shape_of place.pages r) place.site place.number) raw in
+      let some = some_pages place.pages (raw_space (page_of place.pages image)) has.page in
+      let same : page_of place.pages new ≡ page_of place.pages image = page-same place.pages image new some (omega (arith, has.reach)) size page in
+      let start : start_in place new ≡ start_in place image = ap (λ (p : List ℕ). empty_space (shape_of place.pages (raw_space p)) place.site place.number) same in
       record {
         reach = omega (arith, has.reach);
-        page = ap (λ (r : RawSpace). hold_all (page_tests space_start place.pages r)) raw ∙ has.page;
+        page = ap (λ (p : List ℕ). hold_all (page_tests place.pages (raw_space p))) same ∙ has.page;
         payloads = ps;
-        reads = read_from epoch (start_in place new) (payloads_in place.pages new) ps s read (subst (λ (x : IndexedSpace). replayed epoch ps x ≡ Some s) (sym start) replays);
+        reads = read_from epoch (start_in place new) (payloads_in place.pages (space_bytes place.pages new)) ps s read (subst (λ (x : IndexedSpace). replayed epoch ps x ≡ Some s) (sym start) replays);
         ends = refl;
       }
 
   -- the same payloads
-  pub space_same : (new : List ℕ) → length new ≡ length image → ((i : ℕ) → space_start ≤ i → i < space_start + 1024 → get_or new i 0 ≡ get_or image i 0) → payloads_in place.pages new ≡ Some has.payloads
+  pub space_same : (new : List ℕ) → length new ≡ length image → ((i : ℕ) → space_start ≤ i → i < space_start + 1024 → get_or new i 0 ≡ get_or image i 0) → payloads_in place.pages (space_bytes place.pages new) ≡ Some has.payloads
       → HasSpace place epoch held logged new
   space_same new size page read = subst (λ n. HasSpace place epoch held n new) (sym has.ends) (space_with has.payloads held new size page read space_parts.1)
 
   -- a payload more, which spells a record that may follow
   pub space_more : (r : SpaceRecord) (payload new : List ℕ) → payload ≡ spelt r → record_in payload ≡ Some r → can_follow epoch held r ≡ true → length new ≡ length image
-      → ((i : ℕ) → space_start ≤ i → i < space_start + 1024 → get_or new i 0 ≡ get_or image i 0) → payloads_in place.pages new ≡ Some (has.payloads ++ payload ∷ [])
+      → ((i : ℕ) → space_start ≤ i → i < space_start + 1024 → get_or new i 0 ≡ get_or image i 0) → payloads_in place.pages (space_bytes place.pages new) ≡ Some (has.payloads ++ payload ∷ [])
       → HasSpace place epoch (with_record r held) (logged + (5 + length (spelt r))) new
   space_more r payload new is back can size page read =
       let ps = has.payloads ++ payload ∷ [] in
@@ -160,14 +138,11 @@ module _ (place : SpacePlace) (epoch : ℕ) (held : IndexedSpace) (logged : ℕ)
       subst (λ n. HasSpace place epoch (with_record r held) n new) ends (space_with ps (with_record r held) new size page read replays)
 
 -- Only the length and the bytes from the space on tell what the space is.
-payloads_kept : (pages : ℕ) (a b : List ℕ) → 1 ≤ pages → space_end pages ≤ length a → length b ≡ length a → ((i : ℕ) → 131072 ≤ i → get_or b i 0 ≡ get_or a i 0) → payloads_in pages b ≡ payloads_in pages a
-payloads_kept pages a b some long size same = ap log_reading (run_at-same log_start (log_bytes pages) a b (omega (arith, long)) size (λ i from to. same i (omega arith)))
-
 pub has_space_kept : (place : SpacePlace) (epoch : ℕ) (held : IndexedSpace) (logged : ℕ) (old new : List ℕ) → length new ≡ length old → ((i : ℕ) → 131072 ≤ i → get_or new i 0 ≡ get_or old i 0)
     → HasSpace place epoch held logged old → HasSpace place epoch held logged new
 has_space_kept place epoch held logged old new size same has =
-    let some = some_pages place.pages (raw_space space_start old) has.page in
-    space_same place epoch held logged old has new size (λ i from to. same i from) (payloads_kept place.pages old new some has.reach size same ∙ (space_parts place epoch held logged old has).0)
+    let some = some_pages place.pages (raw_space (page_of place.pages old)) has.page in
+    space_same place epoch held logged old has new size (λ i from to. same i from) (log-same place.pages old new some has.reach size same ∙ (space_parts place epoch held logged old has).0)
 
 log_kept : (layout : Layout) (place : SpacePlace) (area end : ℕ) (k : Content) (old new : List ℕ) → IsPlace place → layout ≡ log_layout place → space_end place.pages ≤ length old → length new ≡ length old
     → ((i : ℕ) → 131072 ≤ i → get_or new i 0 ≡ get_or old i 0) → IsOpen layout area end k old → IsOpen layout area end k new
@@ -214,13 +189,13 @@ file_epochs f epoch image is = has_space_epochs (place_in f) epoch (held_in f) (
 formatted_space : (place : SpacePlace) (shape : Shape) (epoch : ℕ) (image : List ℕ) → shape.pages ≡ place.pages → IsFormatted shape image → space_end place.pages ≤ length image
     → HasSpace place epoch (empty_space shape place.site place.number) 0 image
 formatted_space place shape epoch image pages is reach =
-    let raw = raw_space space_start image in
-    let shape_is : shape_of place.pages raw ≡ shape = subst (λ n. shape_of n raw ≡ shape) pages is.shape_is in
+    let page = page_of place.pages image in
+    let shape_is : shape_of place.pages (raw_space page) ≡ shape = subst (λ n. shape_of n (raw_space (page_of n image)) ≡ shape) pages is.shape_is in
     record {
       reach = reach;
-      page = subst (λ n. hold_all (page_tests space_start n raw) ≡ true) pages is.page;
+      page = subst (λ n. hold_all (page_tests n (raw_space (page_of n image))) ≡ true) pages is.page;
       payloads = [];
-      reads = read_from epoch (start_in place image) (payloads_in place.pages image) [] (empty_space shape place.site place.number) (subst (λ n. payloads_in n image ≡ Some []) pages is.empty)
+      reads = read_from epoch (start_in place image) (payloads_in place.pages (space_bytes place.pages image)) [] (empty_space shape place.site place.number) (subst (λ n. payloads_in n (space_bytes n image) ≡ Some []) pages is.empty)
           (ap (λ (s : Shape). Some (empty_space s place.site place.number)) shape_is);
       ends = refl;
     }
@@ -228,7 +203,7 @@ formatted_space place shape epoch image pages is reach =
 pub formatted_file : (f : SpaceFile) (shape : Shape) (epoch : ℕ) (image : List ℕ) → shape.pages ≡ f.place.pages → held_in f ≡ empty_space shape f.place.site f.place.number → logged_in f ≡ 0
     → ((k : Content) → content (log_layout f.place) image ≡ Some k → k.payloads ≡ [] → IsLog f.log k image) → IsFormatted shape image → space_end f.place.pages ≤ length image → IsFile f epoch image
 formatted_file f shape epoch image pages held logged on is reach =
-    let empty = content_some f.place f.placed image reach [] (subst (λ n. payloads_in n image ≡ Some []) pages is.empty) in
+    let empty = content_some f.place f.placed image reach [] (subst (λ n. payloads_in n (space_bytes n image) ≡ Some []) pages is.empty) in
     record {
       has = subst (λ (s : IndexedSpace). HasSpace f.place epoch s (logged_in f) image) (sym held) (subst (λ n. HasSpace f.place epoch (empty_space shape f.place.site f.place.number) n image) (sym logged) (formatted_space f.place shape epoch image pages is reach));
       log = record { content = content_with f.place f.placed [] image; log = on (content_with f.place f.placed [] image) empty refl };

@@ -10,14 +10,15 @@ use Rattle.tq_host.specs.Within.{Within}
 use Rattle.tq_host.proofs.Steps.{IsSteps}
 use Rattle.tq_host.proofs.Within.{starts, still, changes}
 use Rattle.tq_field.specs.Places.{run_at}
-use Rattle.tq_field.proofs.Runs.{get_or-run_at}
+use Rattle.tq_field.proofs.Runs.{length-run_at, get_or-run_at}
 use Rattle.tq_gate.specs.Loading.{IsAny}
 use Rattle.tq_gate.proofs.Readings.{reading_shut}
 use Rattle.tq_model.specs.declared.space.Shape.{Shape}
 use Rattle.tq_model.specs.Space.{overhead_pages}
 use Rattle.tq_model.specs.SpaceForm.{page_spelt, log_bytes}
-use Rattle.tq_model.specs.Reading.{space_start, log_start}
-use Rattle.tq_spacefile.specs.Place.{space_end}
+use Rattle.tq_model.specs.Reading.{log_start}
+use Rattle.tq_spacefile.specs.Place.{space_end, space_bytes, page_of}
+use Rattle.tq_spacefile.proofs.LogicalBytes.{space_start, log_address, page-is, log-is}
 use Rattle.tq_spacefile.specs.Page.{IsZeroPadded, are_limits, is_error, is_creation}
 use Rattle.tq_spacefile.specs.File.{IsFormatted, IsSameButSpace, AreLong}
 use Rattle.tq_spacefile.proofs.Pages.{page_spelt_most, page_tests-spelt, shape_of-spelt}
@@ -46,14 +47,19 @@ module _ (s : Shape) (page old new : List ℕ) (long : length page ≡ 2049) (re
   pub formatted : is_creation s ≡ true → overhead_pages s < s.pages → IsZeroPadded (page_spelt s) page → IsFormatted s new
   formatted within pages begins =
       let short = page_spelt_most s within in
-      let stands : HasBytesAt space_start (page_spelt s) new = λ i below. written.stands i (omega arith) ∙ begins i in
-      let ends : space_start + length (page_spelt s) ≤ length new = omega (arith, written.size) in
-      let log = run_at log_start (log_bytes s.pages) new in
-      let place : log_start + 0 ≡ space_start + 2048 = omega arith in
-      let zero : get_or log 0 0 ≡ 0 = get_or-run_at log_start (log_bytes s.pages) new 0 0 (some_log s pages) ∙ ap (λ (k : ℕ). get_or new k 0) place ∙ written.stands 2048 (omega arith) ∙ begins 2048 ∙ get_or_past (page_spelt s) 2048 0 (omega arith) in
+      let first = page_of s.pages new in
+      let is = page-is s.pages new some in
+      let size : length first ≡ 1024 = ap (λ (p : List ℕ). length p) is ∙ length-run_at space_start 1024 new (omega (arith, written.size)) in
+      let stands : HasBytesAt 0 (page_spelt s) first = λ i below.
+      let at : space_start + (0 + i) ≡ space_start + i = omega arith in
+      ap (λ (p : List ℕ). get_or p (0 + i) 0) is ∙ get_or-run_at space_start 1024 new (0 + i) 0 (omega (arith, below, short)) ∙ ap (λ (k : ℕ). get_or new k 0) at ∙ written.stands i (omega (arith, below, short)) ∙ begins i in
+      let ends : length (page_spelt s) ≤ length first = omega (arith, size, short) in
+      let log = run_at log_start (log_bytes s.pages) (space_bytes s.pages new) in
+      let zero : get_or log 0 0 ≡ 0 =
+      ap (λ (l : List ℕ). get_or l 0 0) (log-is s.pages new some) ∙ get_or-run_at log_address (log_bytes s.pages) new 0 0 (some_log s pages) ∙ written.stands 2048 (omega arith) ∙ begins 2048 ∙ get_or_past (page_spelt s) 2048 0 (omega arith) in
       record {
-        page = page_tests-spelt s within space_start new stands ends;
-        shape_is = shape_of-spelt s within space_start new stands ends;
+        page = page_tests-spelt s within first stands ends;
+        shape_is = shape_of-spelt s within first stands ends;
         empty = reading_shut (length log) 0 log (λ open_gate. let no : 0 ≡ 79 = sym zero ∙ open_gate in cc);
       }
 

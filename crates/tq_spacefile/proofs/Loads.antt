@@ -13,12 +13,12 @@ use Rattle.tq_model.specs.declared.space.Shape.{Shape}
 use Rattle.tq_model.specs.Moves.{IndexedSpace}
 use Rattle.tq_model.specs.Plain.{IsOwn, KeepsAllAtCrash}
 use Rattle.tq_model.specs.SpaceForm.{raw_space, shape_of, log_bytes, replayed, empty_space}
-use Rattle.tq_model.specs.Reading.{page_tests, hold_all, space_start, payloads_in, space_in, Replayed}
+use Rattle.tq_model.specs.Reading.{page_tests, hold_all, payloads_in, space_in, Replayed}
 use Rattle.tq_model.proofs.Replays.{replayed_keeps, replayed_plain, empty_plain, empty_ids}
 use Rattle.tq_spacefile.specs.declared.place.SpacePlace.{SpacePlace}
 use Rattle.tq_spacefile.specs.declared.file.SpaceFile.{SpaceFile}
-use Rattle.tq_spacefile.specs.Place.{space_end, IsPlace, log_layout}
-use Rattle.tq_spacefile.specs.Page.{shape_at}
+use Rattle.tq_spacefile.specs.Place.{space_end, space_bytes, page_of, IsPlace, log_layout}
+use Rattle.tq_spacefile.specs.Page.{shape_in}
 use Rattle.tq_spacefile.specs.Loading.{loaded_space}
 use Rattle.tq_spacefile.specs.File.{IsFile, has_space, place_in, held_in, log_of}
 use Rattle.tq_spacefile.proofs.Logs.{payloads_some, payloads_none}
@@ -48,12 +48,12 @@ module _ (shape : Shape) (site number epoch : ℕ) (ps : List (List ℕ)) (held 
 
 -- ---- what is read
 
-pub loaded_file : (f : SpaceFile) (shape : Shape) (epoch : ℕ) (image : List ℕ) (k : Content) → space_end f.place.pages ≤ length image → shape_at space_start f.place.pages image ≡ Some shape → IsLog f.log k image
+pub loaded_file : (f : SpaceFile) (shape : Shape) (epoch : ℕ) (image : List ℕ) (k : Content) → space_end f.place.pages ≤ length image → shape_in f.place.pages (page_of f.place.pages image) ≡ Some shape → IsLog f.log k image
     → replayed epoch k.payloads (empty_space shape f.place.site f.place.number) ≡ Some (held_in f) → IsFile f epoch image
 loaded_file f shape epoch image k reach says log replays =
     let place = f.place in
-    let raw = raw_space space_start image in
-    let page = cond_some (hold_all (page_tests space_start place.pages raw)) (shape_of place.pages raw) shape says in
+    let raw = raw_space (page_of place.pages image) in
+    let page = cond_some (hold_all (page_tests place.pages raw)) (shape_of place.pages raw) shape says in
     let own : content (log_layout place) image ≡ Some k = sym (ap (λ (l : Layout). content l image) f.layout) ∙ log.reads in
     let start : start_in place image ≡ empty_space shape place.site place.number = ap (λ (s : Shape). empty_space s place.site place.number) page.1 in
     let long : log_length f.log.layout ≡ log_bytes place.pages = ap (λ (l : Layout). log_length l) f.layout in
@@ -62,7 +62,7 @@ loaded_file f shape epoch image k reach says log replays =
         reach = reach;
         page = page.0;
         payloads = k.payloads;
-        reads = read_from epoch (start_in place image) (payloads_in place.pages image) k.payloads (held_in f) (payloads_some place f.placed image reach k own) (subst (λ (s : IndexedSpace). replayed epoch k.payloads s ≡ Some (held_in f)) (sym start) replays);
+        reads = read_from epoch (start_in place image) (payloads_in place.pages (space_bytes place.pages image)) k.payloads (held_in f) (payloads_some place f.placed image reach k own) (subst (λ (s : IndexedSpace). replayed epoch k.payloads s ≡ Some (held_in f)) (sym start) replays);
         ends = omega (arith, long, log.end_is, f.log.within);
       };
       log = record { content = k; log = log };
@@ -70,10 +70,10 @@ loaded_file f shape epoch image k reach says log replays =
 
 -- the same of a file that was made of what was read there
 pub loaded_at : (place : SpacePlace) (log : GateLog) (f : SpaceFile) (shape : Shape) (epoch : ℕ) (image : List ℕ) (k : Content) → place_in f ≡ place → log_of f ≡ log → space_end place.pages ≤ length image
-    → shape_at space_start place.pages image ≡ Some shape → IsLog log k image → loaded_space epoch shape place k ≡ Some (held_in f) → IsFile f epoch image
+    → shape_in place.pages (page_of place.pages image) ≡ Some shape → IsLog log k image → loaded_space epoch shape place k ≡ Some (held_in f) → IsFile f epoch image
 loaded_at place log f shape epoch image k same_place same_log reach says is replays =
     let back = sym same_place in
-    loaded_file f shape epoch image k (subst (λ (p : SpacePlace). space_end p.pages ≤ length image) back reach) (subst (λ (p : SpacePlace). shape_at space_start p.pages image ≡ Some shape) back says)
+    loaded_file f shape epoch image k (subst (λ (p : SpacePlace). space_end p.pages ≤ length image) back reach) (subst (λ (p : SpacePlace). shape_in p.pages (page_of p.pages image) ≡ Some shape) back says)
     (subst (λ (l : GateLog). IsLog l k image) (sym same_log) is) (subst (λ (p : SpacePlace). loaded_space epoch shape p k ≡ Some (held_in f)) back replays)
 
 -- ---- what has no reading
@@ -84,13 +84,13 @@ nothing false x none = refl
 
 module _ (place : SpacePlace) (epoch : ℕ) (image : List ℕ) where
   abbrev page_holds : Bool
-  page_holds = hold_all (page_tests space_start place.pages (raw_space space_start image))
+  page_holds = hold_all (page_tests place.pages (raw_space (page_of place.pages image)))
 
   abbrev found : Option Replayed
-  found = space_in place.site place.number epoch place.pages image
+  found = space_in place.site place.number epoch place.pages (space_bytes place.pages image)
 
-  pub no_page : shape_at space_start place.pages image ≡ None → has_space place epoch image ≡ false
-  no_page none = and_left page_holds (is_some found) (nothing page_holds (shape_of place.pages (raw_space space_start image)) none)
+  pub no_page : shape_in place.pages (page_of place.pages image) ≡ None → has_space place epoch image ≡ false
+  no_page none = and_left page_holds (is_some found) (nothing page_holds (shape_of place.pages (raw_space (page_of place.pages image))) none)
 
   unfound : found ≡ None → has_space place epoch image ≡ false
   unfound none = and_right page_holds (is_some found) (ap is_some none)
@@ -98,10 +98,10 @@ module _ (place : SpacePlace) (epoch : ℕ) (image : List ℕ) where
   pub no_log : IsPlace place → space_end place.pages ≤ length image → content (log_layout place) image ≡ None → has_space place epoch image ≡ false
   no_log is reach none = unfound (unread epoch place image (payloads_none place is image reach none))
 
-  pub no_replay : IsPlace place → space_end place.pages ≤ length image → (k : Content) → content (log_layout place) image ≡ Some k → (shape : Shape) → shape_at space_start place.pages image ≡ Some shape
+  pub no_replay : IsPlace place → space_end place.pages ≤ length image → (k : Content) → content (log_layout place) image ≡ Some k → (shape : Shape) → shape_in place.pages (page_of place.pages image) ≡ Some shape
       → loaded_space epoch shape place k ≡ None → has_space place epoch image ≡ false
   no_replay is reach k holds shape says none =
-      let raw = raw_space space_start image in
-      let page = cond_some (hold_all (page_tests space_start place.pages raw)) (shape_of place.pages raw) shape says in
+      let raw = raw_space (page_of place.pages image) in
+      let page = cond_some (hold_all (page_tests place.pages raw)) (shape_of place.pages raw) shape says in
       let start : start_in place image ≡ empty_space shape place.site place.number = ap (λ (s : Shape). empty_space s place.site place.number) page.1 in
       unfound (unreplayed epoch place image k.payloads (payloads_some place is image reach k holds) (subst (λ (s : IndexedSpace). replayed epoch k.payloads s ≡ None) (sym start) none))

@@ -13,7 +13,8 @@ use Rattle.tq_gate.proofs.Stretches.{is_bytes_from}
 use Rattle.tq_model.specs.SpaceForm.{log_bytes}
 use Rattle.tq_model.specs.Reading.{log_start, payloads_in}
 use Rattle.tq_spacefile.specs.declared.place.SpacePlace.{SpacePlace}
-use Rattle.tq_spacefile.specs.Place.{space_end, IsPlace, log_layout}
+use Rattle.tq_spacefile.specs.Place.{space_end, space_bytes, IsPlace, log_layout}
+use Rattle.tq_spacefile.proofs.LogicalBytes.{log_address, log-is}
 
 abbrev over_base : List ℕ → List (List ℕ) → Content
 over_base base payloads = record { base = base; payloads = payloads }
@@ -38,17 +39,18 @@ module _ (place : SpacePlace) (is : IsPlace place) where
   content_with payloads image = record { base = base_in (log_layout place) (first_area (log_layout place)) image; payloads = payloads }
 
   module _ (image : List ℕ) (reach : space_end place.pages ≤ length image) where
-    log_is : run_at log_start (log_bytes place.pages) image ≡ log_in (log_layout place) (first_area (log_layout place)) image
+    log_is : run_at log_start (log_bytes place.pages) (space_bytes place.pages image) ≡ log_in (log_layout place) (first_area (log_layout place)) image
     log_is =
         let layout = log_layout place in
         let n = log_bytes place.pages in
         let from = first_area layout + base_length layout in
-        is_bytes_from layout from n (run_at log_start n image) image (length-run_at log_start n image (omega (arith, is.least))) (λ i below.
-        let at : log_start + i ≡ address layout (from + i) = omega arith in
-        get_or-run_at log_start n image i 0 below ∙ ap (λ (k : ℕ). get_or image k 0) at)
+        log-is place.pages image is.least
+        ∙ is_bytes_from layout from n (run_at log_address n image) image (length-run_at log_address n image (omega (arith, is.least))) (λ i below.
+        let at : log_address + i ≡ address layout (from + i) = omega arith in
+        get_or-run_at log_address n image i 0 below ∙ ap (λ (k : ℕ). get_or image k 0) at)
 
     -- the content of the gated log, by its payloads
-    pub content_is : content (log_layout place) image ≡ option_map (λ payloads. content_with payloads image) (payloads_in place.pages image)
+    pub content_is : content (log_layout place) image ≡ option_map (λ payloads. content_with payloads image) (payloads_in place.pages (space_bytes place.pages image))
     content_is =
         let layout = log_layout place in
         let log = log_in layout (first_area layout) image in
@@ -56,11 +58,11 @@ module _ (place : SpacePlace) (is : IsPlace place) where
         ap (λ (b : Bool). if b then option_map (λ payloads. content_with payloads image) (log_reading log) else None) long
         ∙ ap (λ (l : List ℕ). option_map (λ payloads. content_with payloads image) (log_reading l)) (sym log_is)
 
-    pub content_some : (ps : List (List ℕ)) → payloads_in place.pages image ≡ Some ps → content (log_layout place) image ≡ Some (content_with ps image)
+    pub content_some : (ps : List (List ℕ)) → payloads_in place.pages (space_bytes place.pages image) ≡ Some ps → content (log_layout place) image ≡ Some (content_with ps image)
     content_some ps same = content_is ∙ ap (option_map (λ payloads. content_with payloads image)) same
 
-    pub payloads_some : (k : Content) → content (log_layout place) image ≡ Some k → payloads_in place.pages image ≡ Some k.payloads
-    payloads_some k same = mapped_some (base_in (log_layout place) (first_area (log_layout place)) image) (payloads_in place.pages image) k (sym content_is ∙ same)
+    pub payloads_some : (k : Content) → content (log_layout place) image ≡ Some k → payloads_in place.pages (space_bytes place.pages image) ≡ Some k.payloads
+    payloads_some k same = mapped_some (base_in (log_layout place) (first_area (log_layout place)) image) (payloads_in place.pages (space_bytes place.pages image)) k (sym content_is ∙ same)
 
-    pub payloads_none : content (log_layout place) image ≡ None → payloads_in place.pages image ≡ None
-    payloads_none same = mapped_none (base_in (log_layout place) (first_area (log_layout place)) image) (payloads_in place.pages image) (sym content_is ∙ same)
+    pub payloads_none : content (log_layout place) image ≡ None → payloads_in place.pages (space_bytes place.pages image) ≡ None
+    payloads_none same = mapped_none (base_in (log_layout place) (first_area (log_layout place)) image) (payloads_in place.pages (space_bytes place.pages image)) (sym content_is ∙ same)

@@ -16,23 +16,21 @@ use Rattle.tq_model.specs.Names.{is_name}
 use Rattle.tq_model.specs.SpaceForm.{RawSpace, raw_space, shape_of, error_spelt, page_spelt}
 use Rattle.tq_model.specs.Reading.{page_tests, hold_all}
 use Rattle.tq_model.proofs.NameTests.{name_from_test}
-use Rattle.tq_spacefile.specs.Page.{IsZeroPadded, numbers_spelt, error_size, error_bytes, raw_of, are_limits, is_error, is_creation, shape_at, shape_in}
+use Rattle.tq_spacefile.specs.Page.{IsZeroPadded, numbers_spelt, error_size, error_bytes, raw_of, are_limits, is_error, is_creation, shape_in}
 use Rattle.tq_spacefile.proofs.Places.{number_behind, run_at-run_at}
 
--- Only the bytes of a first page tell what it says: the number of its name's bytes is the one before them.
-pub raw_space-run_at : (at n : ℕ) (image : List ℕ) → 25 + get_or image (at + 24) 0 ≤ n → raw_space 0 (run_at at n image) ≡ raw_space at image
-raw_space-run_at at n image within =
-    let run = run_at at n image in
-    let at_mark : at + 0 ≡ at = omega arith in
-    let mark : run_at 0 8 run ≡ run_at at 8 image = run_at-run_at 0 8 at n image (omega arith) ∙ ap (λ (p : ℕ). run_at p 8 image) at_mark in
-    let version = ap number_of (run_at-run_at 8 2 at n image (omega arith)) in
-    let queues = ap number_of (run_at-run_at 10 2 at n image (omega arith)) in
-    let messages = ap number_of (run_at-run_at 12 2 at n image (omega arith)) in
-    let transactions = ap number_of (run_at-run_at 14 2 at n image (omega arith)) in
-    let memory = ap number_of (run_at-run_at 16 8 at n image (omega arith)) in
-    let size : get_or run 24 0 ≡ get_or image (at + 24) 0 = get_or-run_at at n image 24 0 (omega arith) in
-    let error : run_at 25 (get_or run 24 0) run ≡ run_at (at + 25) (get_or image (at + 24) 0) image =
-    ap (λ (k : ℕ). run_at 25 k run) size ∙ run_at-run_at 25 (get_or image (at + 24) 0) at n image within in
+-- Only these bytes of a first page tell what it says: the number of its name's bytes is the one before them.
+raw_space-take : (n : ℕ) (page : List ℕ) → 25 + get_or page 24 0 ≤ n → raw_space (run_at 0 n page) ≡ raw_space page
+raw_space-take n page within =
+    let run = run_at 0 n page in
+    let mark = run_at-run_at 0 8 0 n page (omega arith) in
+    let version = ap number_of (run_at-run_at 8 2 0 n page (omega arith)) in
+    let queues = ap number_of (run_at-run_at 10 2 0 n page (omega arith)) in
+    let messages = ap number_of (run_at-run_at 12 2 0 n page (omega arith)) in
+    let transactions = ap number_of (run_at-run_at 14 2 0 n page (omega arith)) in
+    let memory = ap number_of (run_at-run_at 16 8 0 n page (omega arith)) in
+    let size : get_or run 24 0 ≡ get_or page 24 0 = get_or-run_at 0 n page 24 0 (omega arith) in
+    let error : run_at 25 (get_or run 24 0) run ≡ run_at 25 (get_or page 24 0) page = ap (λ (k : ℕ). run_at 25 k run) size ∙ run_at-run_at 25 (get_or page 24 0) 0 n page within in
     λ i. record {
       mark = mark i;
       version = version i;
@@ -116,7 +114,7 @@ limits_fit s within =
     }
 
 -- a first page that was spelt
-raw_space-page_spelt : (s : Shape) → Fits s → raw_space 0 (page_spelt s) ≡ raw_of s
+raw_space-page_spelt : (s : Shape) → Fits s → raw_space (page_spelt s) ≡ raw_of s
 raw_space-page_spelt s fits =
     let a = codes "TQSPROV1" in
     let v = digits 2 1 in
@@ -158,14 +156,14 @@ raw_space-page_spelt s fits =
       error = error i;
     }
 
--- Where a first page stands that was spelt, its fields are those of the shape.
-pub raw_space-spelt : (s : Shape) → is_creation s ≡ true → (at : ℕ) (image : List ℕ) → HasBytesAt at (page_spelt s) image → at + length (page_spelt s) ≤ length image → raw_space at image ≡ raw_of s
-raw_space-spelt s within at image stands long =
+-- Where a first page begins as it was spelt, its fields are those of the shape.
+pub raw_space-spelt : (s : Shape) → is_creation s ≡ true → (page : List ℕ) → HasBytesAt 0 (page_spelt s) page → length (page_spelt s) ≤ length page → raw_space page ≡ raw_of s
+raw_space-spelt s within page stands long =
     let p = page_spelt s in
     let whole = length-page_spelt s in
-    let size : get_or image (at + 24) 0 ≡ error_size s.error = stands 24 (omega (arith, whole)) ∙ size_behind (numbers_spelt s) s.error (length-numbers_spelt s) in
-    sym (raw_space-run_at at (length p) image (omega (arith, whole, size)))
-    ∙ ap (raw_space 0) (run_at-is at p image long stands)
+    let size : get_or page 24 0 ≡ error_size s.error = stands 24 (omega (arith, whole)) ∙ size_behind (numbers_spelt s) s.error (length-numbers_spelt s) in
+    sym (raw_space-take (length p) page (omega (arith, whole, size)))
+    ∙ ap raw_space (run_at-is 0 p page (omega (arith, long)) stands)
     ∙ raw_space-page_spelt s (limits_fit s (and_parts (are_limits s) (is_error s.error) within).0)
 
 -- ---- the shape of these fields
@@ -203,38 +201,30 @@ is_error-named false name = refl
 abbrev pub is_first_page : ℕ → RawSpace → Bool
 is_first_page pages r = bytes_eq r.mark (codes "TQSPROV1") && (r.version == 1) && is_creation (shape_of pages r)
 
-pub page_tests_are : (at pages : ℕ) (r : RawSpace) → hold_all (page_tests at pages r) ≡ is_first_page pages r
-page_tests_are at pages r =
+pub page_tests_are : (pages : ℕ) (r : RawSpace) → hold_all (page_tests pages r) ≡ is_first_page pages r
+page_tests_are pages r =
     regrouped (bytes_eq r.mark (codes "TQSPROV1")) (r.version == 1) (nat_le 1 r.queues && nat_le r.queues 256) (nat_le 1 r.messages && nat_le r.messages 8192) (nat_le 1 r.transactions && nat_le r.transactions 64) (nat_le r.memory 16777216)
     (r.error_size == 0 || is_name r.error) (nat_lt (overhead_pages (shape_of pages r)) pages)
     ∙ ap (λ (e : Bool). bytes_eq r.mark (codes "TQSPROV1") && (r.version == 1) && (are_limits (shape_of pages r) && e)) (is_error-named (r.error_size == 0) r.error)
 
-pub shape_at_is : (at pages : ℕ) (bytes : List ℕ) → shape_at at pages bytes ≡ (if is_first_page pages (raw_space at bytes) then Some (shape_of pages (raw_space at bytes)) else None)
-shape_at_is at pages bytes = ap (λ (t : Bool). if t then Some (shape_of pages (raw_space at bytes)) else None) (page_tests_are at pages (raw_space at bytes))
+pub shape_in_is : (pages : ℕ) (page : List ℕ) → shape_in pages page ≡ (if is_first_page pages (raw_space page) then Some (shape_of pages (raw_space page)) else None)
+shape_in_is pages page = ap (λ (t : Bool). if t then Some (shape_of pages (raw_space page)) else None) (page_tests_are pages (raw_space page))
 
 is_first_page-raw_of : (s : Shape) → is_creation s ≡ true → is_first_page s.pages (raw_of s) ≡ true
 is_first_page-raw_of s within = ap is_creation (shape_of-raw_of s within) ∙ within
 
-module _ (s : Shape) (within : is_creation s ≡ true) (at : ℕ) (image : List ℕ) (stands : HasBytesAt at (page_spelt s) image) (long : at + length (page_spelt s) ≤ length image) where
+module _ (s : Shape) (within : is_creation s ≡ true) (page : List ℕ) (stands : HasBytesAt 0 (page_spelt s) page) (long : length (page_spelt s) ≤ length page) where
   -- the shape that is read is the one that was spelt
-  pub shape_of-spelt : shape_of s.pages (raw_space at image) ≡ s
-  shape_of-spelt = ap (shape_of s.pages) (raw_space-spelt s within at image stands long) ∙ shape_of-raw_of s within
+  pub shape_of-spelt : shape_of s.pages (raw_space page) ≡ s
+  shape_of-spelt = ap (shape_of s.pages) (raw_space-spelt s within page stands long) ∙ shape_of-raw_of s within
 
   -- and each test of the page holds
-  pub page_tests-spelt : hold_all (page_tests at s.pages (raw_space at image)) ≡ true
-  page_tests-spelt = page_tests_are at s.pages (raw_space at image) ∙ ap (is_first_page s.pages) (raw_space-spelt s within at image stands long) ∙ is_first_page-raw_of s within
+  pub page_tests-spelt : hold_all (page_tests s.pages (raw_space page)) ≡ true
+  page_tests-spelt = page_tests_are s.pages (raw_space page) ∙ ap (is_first_page s.pages) (raw_space-spelt s within page stands long) ∙ is_first_page-raw_of s within
 
 -- a page that begins so is read back
 pub shape_in-spelt : (s : Shape) → is_creation s ≡ true → (page : List ℕ) → IsZeroPadded (page_spelt s) page → length (page_spelt s) ≤ length page → shape_in s.pages page ≡ Some s
 shape_in-spelt s within page begins long =
     let stands : HasBytesAt 0 (page_spelt s) page = λ i below. ap (λ (k : ℕ). get_or page k 0) (zero-add i) ∙ begins i in
-    let reach : 0 + length (page_spelt s) ≤ length page = omega (arith, long) in
-    ap (λ (t : Bool). if t then Some (shape_of s.pages (raw_space 0 page)) else None) (page_tests-spelt s within 0 page stands reach)
-    ∙ ap Some (shape_of-spelt s within 0 page stands reach)
-
--- a first page that stands on a device is read as it is there
-pub shape_in-stands : (pages at : ℕ) (page image : List ℕ) → HasBytesAt at page image → length page ≡ 1024 → at + 1024 ≤ length image → get_or page 24 0 < 256 → shape_in pages page ≡ shape_at at pages image
-shape_in-stands pages at page image stands long reach small =
-    let size : get_or image (at + 24) 0 ≡ get_or page 24 0 = stands 24 (omega arith) in
-    let raw : raw_space 0 page ≡ raw_space at image = ap (raw_space 0) (sym (run_at-is at page image (omega arith) stands)) ∙ raw_space-run_at at (length page) image (omega (arith, size)) in
-    ap (λ (r : RawSpace). if hold_all (page_tests at pages r) then Some (shape_of pages r) else None) raw
+    ap (λ (t : Bool). if t then Some (shape_of s.pages (raw_space page)) else None) (page_tests-spelt s within page stands long)
+    ∙ ap Some (shape_of-spelt s within page stands long)

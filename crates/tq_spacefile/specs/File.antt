@@ -10,10 +10,10 @@ use Rattle.tq_model.specs.declared.space.Shape.{Shape}
 use Rattle.tq_model.specs.declared.record.SpaceRecord.{SpaceRecord}
 use Rattle.tq_model.specs.Moves.{IndexedSpace}
 use Rattle.tq_model.specs.SpaceForm.{raw_space, shape_of, log_bytes, spelt}
-use Rattle.tq_model.specs.Reading.{page_tests, hold_all, space_start, payloads_in, space_in}
+use Rattle.tq_model.specs.Reading.{page_tests, hold_all, payloads_in, space_in}
 use Rattle.tq_spacefile.specs.declared.place.SpacePlace.{SpacePlace}
 use Rattle.tq_spacefile.specs.declared.file.SpaceFile.{SpaceFile}
-use Rattle.tq_spacefile.specs.Place.{space_end}
+use Rattle.tq_spacefile.specs.Place.{space_end, space_bytes, page_of}
 use Rattle.tq_spacefile.specs.Record.{with_record}
 
 -- On the device
@@ -21,9 +21,9 @@ use Rattle.tq_spacefile.specs.Record.{with_record}
 -- An image has this space there, with so many bytes of its log taken; its epochs are up to this one.
 pub record HasSpace (place : SpacePlace) (epoch : ℕ) (held : IndexedSpace) (logged : ℕ) (image : List ℕ) : Type 0 where
   pub reach : space_end place.pages ≤ length image
-  pub page : hold_all (page_tests space_start place.pages (raw_space space_start image)) ≡ true
+  pub page : hold_all (page_tests place.pages (raw_space (page_of place.pages image))) ≡ true
   pub payloads : List (List ℕ)
-  pub reads : space_in place.site place.number epoch place.pages image ≡ Some (record { payloads = payloads; space = held })
+  pub reads : space_in place.site place.number epoch place.pages (space_bytes place.pages image) ≡ Some (record { payloads = payloads; space = held })
   pub ends : logged ≡ end_of payloads
 
 -- the same length, and the same bytes before the first space
@@ -37,13 +37,13 @@ AreLong dev pages v = (image : List ℕ) → v.may_leave dev image → space_end
 
 -- the pages of a new space: its creation, and an empty log
 pub record IsFormatted (shape : Shape) (image : List ℕ) : Type 0 where
-  pub page : hold_all (page_tests space_start shape.pages (raw_space space_start image)) ≡ true
-  pub shape_is : shape_of shape.pages (raw_space space_start image) ≡ shape
-  pub empty : payloads_in shape.pages image ≡ Some []
+  pub page : hold_all (page_tests shape.pages (raw_space (page_of shape.pages image))) ≡ true
+  pub shape_is : shape_of shape.pages (raw_space (page_of shape.pages image)) ≡ shape
+  pub empty : payloads_in shape.pages (space_bytes shape.pages image) ≡ Some []
 
 -- whether an image has a space there
 abbrev pub has_space : SpacePlace → ℕ → List ℕ → Bool
-has_space place epoch image = hold_all (page_tests space_start place.pages (raw_space space_start image)) && is_some (space_in place.site place.number epoch place.pages image)
+has_space place epoch image = hold_all (page_tests place.pages (raw_space (page_of place.pages image))) && is_some (space_in place.site place.number epoch place.pages (space_bytes place.pages image))
 
 -- In memory
 

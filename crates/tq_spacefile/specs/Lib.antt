@@ -4,3 +4,4 @@ pub mod Place
 pub mod Record
 pub mod File
 pub mod Loading
+pub mod Commit

@@ -50,9 +50,6 @@ is_error (Some name) = is_name name
 abbrev pub is_creation : Shape → Bool
 is_creation s = are_limits s && is_error s.error
 
--- the shape of the space with so many pages whose first page begins at this byte, if it is the first page of one
-abbrev pub shape_at : ℕ → ℕ → List ℕ → Option Shape
-shape_at at pages bytes = if hold_all (page_tests at pages (raw_space at bytes)) then Some (shape_of pages (raw_space at bytes)) else None
-
+-- the shape of the space with so many pages and this first page, if it is the first page of one
 abbrev pub shape_in : ℕ → List ℕ → Option Shape
-shape_in pages page = shape_at 0 pages page
+shape_in pages page = if hold_all (page_tests pages (raw_space page)) then Some (shape_of pages (raw_space page)) else None

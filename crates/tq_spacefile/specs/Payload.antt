@@ -16,12 +16,6 @@ IsRefusedBy found NoMemory = Unit {0}
 abbrev pub IsRefused : List ℕ → RecordError → Type 0
 IsRefused bytes e = IsRefusedBy (record_in bytes) e
 
--- the body, where there is one, is no longer than a body is
-abbrev pub IsShort : SpaceRecord → Type 0
-IsShort (Added queue arrival body) = length body ≤ longest_body
-IsShort (Gone arrival) = Unit {0}
-IsShort (QueueMade index name) = Unit {0}
-
 abbrev pub IsArrival : Arrival → Type 0
 IsArrival arrival = (arrival.epoch < 2 ^ 32) × (arrival.number < 2 ^ 32)
 

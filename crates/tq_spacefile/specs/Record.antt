@@ -8,7 +8,7 @@ use Rattle.tq_model.specs.Moves.{IndexedSpace, moved}
 use Rattle.tq_model.specs.SpaceForm.{move_of}
 use Rattle.tq_space.specs.declared.plans.Plan.{Plan}
 use Rattle.tq_space.specs.Plain.{CanMove}
-use Rattle.tq_spacefile.specs.Payload.{IsShort}
+use Rattle.tq_model.specs.SpaceLog.{IsShort}
 
 -- A plan of one move, which this record says; a payload can spell the record.
 pub record IsRecorded (s : IndexedSpace) (plan : Plan) (r : SpaceRecord) : Type 0 where

@@ -1,4 +1,8 @@
-//! The form of a queue space on its device: its first page, and a payload for each change of it.
+//! One queue space on its device and in memory: its first page, a payload for each change of it, and
+//! the space that these make. The form is provisional: the log is never shortened.
+//!
+//! The layer above uses `format`, and `SpaceFile`: `new`, `load`, `space` to plan on, and `commit`, at
+//! every stop inside which the device has the old space or the new one.
 #![tactic(auto)]
 
 mod bytes;
@@ -14,9 +18,7 @@ mod place;
 mod recording;
 mod replaying;
 
-pub use fault::{CommitError, FileError, RecordError};
+pub use fault::{CommitError, FileError};
 pub use file::SpaceFile;
 pub use formatting::format;
-pub use page::{NEW_BYTES, decode_page, encode_page};
-pub use payload::{decode, encode};
 pub use place::SpacePlace;

@@ -5,8 +5,8 @@ ghost use Rattle.tq_gate.specs.Log.{layout_of, IsLog};
 ghost use Rattle.tq_gate.specs.Loading.{IsQuiet};
 ghost use Rattle.tq_gate.specs.Loaded.{content_of};
 ghost use Rattle.tq_spacefile.specs.declared.fault.FileError.TheVariants as file_error;
-ghost use Rattle.tq_spacefile.specs.Place.{IsPlace, space_end, log_layout};
-ghost use Rattle.tq_spacefile.specs.Page.{shape_at};
+ghost use Rattle.tq_spacefile.specs.Place.{IsPlace, space_end, page_of, log_layout};
+ghost use Rattle.tq_spacefile.specs.Page.{shape_in};
 ghost use Rattle.tq_spacefile.specs.Loading.{IsUnread, loaded_space};
 ghost use Rattle.tq_spacefile.specs.File.{place_in, has_space, held_in, log_of, IsFile};
 
@@ -24,8 +24,10 @@ use tq_space::Space;
 fn read_shape<H: Host>(host: &mut H, place: &SpacePlace) -> Result<Shape, FileError>
     requires place { IsPlace place.now }
     requires reach { H.tells.reads → space_end place.now.pages ≤ length ((H.view host.old).reads place.now.dev) }
-    ensures shape { IfOk result (λ shape. H.tells.reads → shape_at 131072 place.now.pages ((H.view host.old).reads place.now.dev) ≡ Some shape) }
-    ensures damaged { result ≡ Err file_error.Damaged → H.tells.reads → shape_at 131072 place.now.pages ((H.view host.old).reads place.now.dev) ≡ None }
+    ensures shape { IfOk result (λ shape. H.tells.reads
+        → shape_in place.now.pages (page_of place.now.pages ((H.view host.old).reads place.now.dev)) ≡ Some shape) }
+    ensures damaged { result ≡ Err file_error.Damaged → H.tells.reads
+        → shape_in place.now.pages (page_of place.now.pages ((H.view host.old).reads place.now.dev)) ≡ None }
     ensures quiet { IsQuiet place.now.dev (H.view host.old) (H.view host.new) }
     ensures cause { HasCauseOf (result ≡ Err file_error.Device) (H.view host.old).faults (H.view host.new).faults }
 {

@@ -78,7 +78,7 @@ pub fn decode_page(page: &[u8], pages: u32) -> Option<Shape>
 /// Whether a page begins with the mark of a space and its form's version.
 fn is_marked(page: &[u8]) -> bool
     requires { 1024 ≤ length page.now }
-    ensures { result ≡ (bytes_eq (raw_space 0 page.now).mark (codes "TQSPROV1") && (raw_space 0 page.now).version == 1) }
+    ensures { result ≡ (bytes_eq (raw_space page.now).mark (codes "TQSPROV1") && (raw_space page.now).version == 1) }
 {
     &page[..8] == MARK.as_slice() && u16_at(page, 8) == VERSION
 }
@@ -89,7 +89,7 @@ fn error_in(page: &[u8], size: usize) -> Option<Option<Name>>
     requires page { 1024 ≤ length page.now }
     requires size { size ≡ slice_index page.now 24 }
     requires small { size < 256 }
-    ensures { result ≡ (if is_error (form.error_name (raw_space 0 page.now)) then Some (form.error_name (raw_space 0 page.now)) else None) }
+    ensures { result ≡ (if is_error (form.error_name (raw_space page.now)) then Some (form.error_name (raw_space page.now)) else None) }
 {
     if size == 0 {
         return Some(None);

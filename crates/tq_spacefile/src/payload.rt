@@ -3,10 +3,10 @@ ghost use Rattle.tq_field.specs.Digits.{digits};
 ghost use Rattle.tq_model.specs.SpaceForm as form;
 ghost use Rattle.tq_model.specs.SpaceForm.{spelt, record_in};
 ghost use Rattle.tq_model.specs.declared.record.SpaceRecord.TheVariants.{Added, Gone, QueueMade};
-ghost use Rattle.tq_spacefile.specs.Payload.{IsShort, IsArrival, IsRefusedBy, IsRefused};
+ghost use Rattle.tq_spacefile.specs.Payload.{IsArrival, IsRefusedBy, IsRefused};
 
-use crate::RecordError;
 use crate::bytes::{four_bytes, two_bytes, u16_at, u32_at};
+use crate::fault::RecordError;
 use std::alloc::{AllocError, Global};
 use tq_model::{SpaceRecord, name_in};
 use tq_types::{Arrival, Body, Name};
@@ -21,23 +21,6 @@ const GONE: u8 = 2;
 
 const QUEUE_MADE: u8 = 3;
 
-/// The payload of a record.
-pub fn encode(alloc: Global, change: &SpaceRecord) -> Result<Vec<u8>, AllocError>
-    ensures spelt { IfOk result (λ v. v.items ≡ spelt change.now) }
-    // `decode` gives the record back
-    ensures back { IsShort change.now → IfOk result (λ v. record_in v.items ≡ Some change.now) }
-{
-    match change {
-        SpaceRecord::Added {
-            queue,
-            arrival,
-            body,
-        } => spell_added(alloc, *queue, *arrival, body.as_bytes()),
-        SpaceRecord::Gone(arrival) => spell_gone(alloc, *arrival),
-        SpaceRecord::QueueMade(index, name) => spell_queue(alloc, *index, name),
-    }
-}
-
 fn push_arrival(bytes: &mut Vec<u8>, arrival: Arrival) -> Result<(), AllocError>
     ensures items { OnOk result (bytes.new.items ≡ bytes.old.items ++ digits 4 arrival.epoch ++ digits 4 arrival.number) }
     ensures fits { OnOk result (IsArrival arrival) }
@@ -47,45 +30,48 @@ fn push_arrival(bytes: &mut Vec<u8>, arrival: Arrival) -> Result<(), AllocError>
     Ok(())
 }
 
+/// Puts the payload of a message that came behind other bytes.
 pub(crate) fn spell_added(
-    alloc: Global,
+    bytes: &mut Vec<u8>,
     queue: u16,
     arrival: Arrival,
     body: &[u8],
-) -> Result<Vec<u8>, AllocError>
-    ensures spelt { IfOk result (λ v. v.items ≡ spelt (Added queue arrival body.now)) }
-    ensures back { length body.now ≤ form.longest_body → IfOk result (λ v. record_in v.items ≡ Some (Added queue arrival body.now)) }
+) -> Result<(), AllocError>
+    ensures spelt { OnOk result (bytes.new.items ≡ bytes.old.items ++ spelt (Added queue arrival body.now)) }
+    ensures back { length body.now ≤ form.longest_body → OnOk result (record_in (spelt (Added queue arrival body.now)) ≡ Some (Added queue arrival body.now)) }
 {
-    let mut bytes = Vec::from_slice(alloc, &[ADDED])?;
+    bytes.push(ADDED)?;
     bytes.extend_from_slice(&two_bytes(queue))?;
-    push_arrival(&mut bytes, arrival)?;
+    push_arrival(bytes, arrival)?;
     bytes.extend_from_slice(body)?;
-    Ok(bytes)
+    Ok(())
 }
 
-pub(crate) fn spell_gone(alloc: Global, arrival: Arrival) -> Result<Vec<u8>, AllocError>
-    ensures spelt { IfOk result (λ v. v.items ≡ spelt (Gone arrival)) }
-    ensures back { IfOk result (λ v. record_in v.items ≡ Some (Gone arrival)) }
+/// Puts the payload of a message that has gone behind other bytes.
+pub(crate) fn spell_gone(bytes: &mut Vec<u8>, arrival: Arrival) -> Result<(), AllocError>
+    ensures spelt { OnOk result (bytes.new.items ≡ bytes.old.items ++ spelt (Gone arrival)) }
+    ensures back { OnOk result (record_in (spelt (Gone arrival)) ≡ Some (Gone arrival)) }
 {
-    let mut bytes = Vec::from_slice(alloc, &[GONE])?;
-    push_arrival(&mut bytes, arrival)?;
-    Ok(bytes)
+    bytes.push(GONE)?;
+    push_arrival(bytes, arrival)?;
+    Ok(())
 }
 
-pub(crate) fn spell_queue(alloc: Global, index: u16, name: &Name) -> Result<Vec<u8>, AllocError>
-    ensures spelt { IfOk result (λ v. v.items ≡ spelt (QueueMade index name.now)) }
-    ensures back { IfOk result (λ v. record_in v.items ≡ Some (QueueMade index name.now)) }
+/// Puts the payload of a queue that was made behind other bytes.
+pub(crate) fn spell_queue(bytes: &mut Vec<u8>, index: u16, name: &Name) -> Result<(), AllocError>
+    ensures spelt { OnOk result (bytes.new.items ≡ bytes.old.items ++ spelt (QueueMade index name.now)) }
+    ensures back { OnOk result (record_in (spelt (QueueMade index name.now)) ≡ Some (QueueMade index name.now)) }
 {
     let name = name.as_bytes();
-    let mut bytes = Vec::from_slice(alloc, &[QUEUE_MADE])?;
+    bytes.push(QUEUE_MADE)?;
     bytes.extend_from_slice(&two_bytes(index))?;
     bytes.push(name.len() as u8)?;
     bytes.extend_from_slice(name)?;
-    Ok(bytes)
+    Ok(())
 }
 
 /// What a payload says: `Unspelt` exactly where no record is spelt so.
-pub fn decode(alloc: Global, bytes: &[u8]) -> Result<SpaceRecord, RecordError>
+pub(crate) fn decode(alloc: Global, bytes: &[u8]) -> Result<SpaceRecord, RecordError>
     ensures { MatchResult result (λ r. record_in bytes.now ≡ Some r) (IsRefused bytes.now) }
 {
     let Some((kind, rest)) = bytes.split_first() else {

@@ -113,7 +113,8 @@ pub(crate) fn replay(
     epoch: u32,
     payloads: &[Vec<u8>],
 ) -> Result<Space, FileError>
-    ensures { MatchResult result (λ s. replayed epoch (bytes_of payloads.now) space.held ≡ Some s.held) (IsUnread (replayed epoch (bytes_of payloads.now) space.held)) }
+    ensures { MatchResult result (λ s. replayed epoch (bytes_of payloads.now) space.held ≡ Some s.held)
+        (IsUnread (replayed epoch (bytes_of payloads.now) space.held)) }
 {
     let mut space = space;
     for payload in payloads {

@@ -1,3 +1,5 @@
+//! Numbers and runs in bytes.
+
 use tq_field::{Short, get_run, get_u16, get_u32, get_u64, put_u16, put_u32, put_u64};
 
 const BYTES: [u8; 9] = [0, 1, 2, 3, 4, 5, 6, 7, 255];

@@ -1,3 +1,5 @@
+//! Lines, and the requests that they spell.
+
 use std::alloc::{AllocError, Global};
 use std::test::Fail;
 use tq_model::{

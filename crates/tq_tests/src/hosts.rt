@@ -1,3 +1,5 @@
+//! The hosts in memory, and the calls that are planned to fail.
+
 ghost use Rattle.std.specs.Prelude.{◌<◌};
 
 use std::alloc::Global;

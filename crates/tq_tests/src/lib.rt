@@ -1,5 +1,5 @@
-//! The tests of the crates below the top call, in a crate of their own: a crate with tests is proved
-//! once more for them.
+//! The tests that cross crates, in a crate of their own: a crate with tests is proved once more for
+//! them. `runs` has the rows of the top call, the other files what such a row cannot reach.
 #![tactic(auto)]
 
 #[cfg(test)]
@@ -14,6 +14,8 @@ mod hosts;
 mod logs;
 #[cfg(test)]
 mod machine;
+#[cfg(test)]
+mod runs;
 #[cfg(test)]
 mod spaces;
 #[cfg(test)]

@@ -1,9 +1,12 @@
+//! Rows of lines and answers of the slow machine over two devices.
+
 ghost use Rattle.std.specs.Prelude.{◌≤◌, ◌<◌, ◌+◌, length};
 
 use std::alloc::{AllocError, Global};
 use std::process::Abort;
 use std::test::Fail;
-use tq_model::{Answer, Machine, Request};
+use tq_machine::Machine;
+use tq_model::{Answer, Request};
 use tq_print::answer;
 use tq_script::parse;
 

@@ -1,3 +1,5 @@
+//! Plans and moves of one space in memory.
+
 ghost use Rattle.std.specs.Prelude.{◌≡◌, ◌≤◌, [], ◌∷◌, length, IfOk, OnOk};
 ghost use Rattle.tq_model.specs.Moves.{moved};
 ghost use Rattle.tq_model.specs.Room.{pages_at};
@@ -203,7 +205,7 @@ fn enqueue(
         heuristic: 0,
         next,
     };
-    match space.plan_enqueue(alloc, &ask) {
+    match space.plan_enqueue(alloc, ask) {
         Ok(plan) => {
             space.reserve(&plan)?;
             let Plan {

@@ -1,3 +1,5 @@
+//! The texts of answers.
+
 use std::alloc::{AllocError, Global};
 use std::test::Fail;
 use tq_model::{

@@ -1,3 +1,5 @@
+//! Values of messages, and the order of labels.
+
 use std::cmp::Ordering;
 use std::test::Fail;
 use tq_types::{

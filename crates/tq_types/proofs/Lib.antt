@@ -4,3 +4,4 @@ pub mod Ends
 pub mod LabelOrder
 pub mod Ids
 pub mod Same
+pub mod TextRuns

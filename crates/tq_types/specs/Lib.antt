@@ -9,3 +9,4 @@ pub mod XId
 pub mod BadXId
 pub mod Label
 pub mod Placed
+pub mod Text

@@ -27,6 +27,13 @@ impl Body {
         })
     }
 
+    /// The body of these bytes, which are moved.
+    pub fn from_vec(bytes: Vec<u8>) -> Body
+        ensures { result ≡ bytes.items }
+    {
+        Body { bytes }
+    }
+
     /// An equal body.
     pub fn copy(&self) -> Result<Body, AllocError>
         ensures { IfOk result (λ body. body ≡ self.now) }

@@ -121,7 +121,8 @@ impl Order {
     /// The order of these criteria; refused exactly where one is repeated, with the place of the
     /// first that is.
     pub fn new(criteria: &[Criterion], last: Last) -> Result<Order, BadOrder>
-        ensures { MatchResult result (λ order. (order.criteria ≡ criteria.now) × (order.last ≡ last) × IsDistinct criteria.now) (λ bad. IsFirstRepeat criteria.now bad.at) }
+        ensures { MatchResult result (λ order. (order.criteria ≡ criteria.now) × (order.last ≡ last) × IsDistinct criteria.now)
+            (λ bad. IsFirstRepeat criteria.now bad.at) }
     {
         for (at, criterion) in criteria.iter().enumerate() {
             if criteria[..at].contains(criterion) {

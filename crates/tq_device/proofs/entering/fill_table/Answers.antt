@@ -1,6 +1,6 @@
 use Rattle.std.proofs.Common.{length, arith}
 use Rattle.tq_host.specs.Calls.{IsTorn}
-use Rattle.tq_model.specs.Reading.{table_a, table_b}
+use Rattle.tq_model.specs.DeviceForm.{table_a, table_b}
 use Rattle.tq_device.specs.Content.{HasContent, IsSameButTable}
 use Rattle.tq_device.proofs.Areas.{other_most}
 use Rattle.tq_device.proofs.NextSpace.{table_torn, table_written}

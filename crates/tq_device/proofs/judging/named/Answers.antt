@@ -1,22 +1,21 @@
 use Rattle.std.proofs.Common.{List, ℕ, Option, Some, get_or, sym, ap, ◌∙◌}
-use Rattle.std.specs.Prelude.{option_map}
 use Rattle.std.proofs.lemmas.Bool.{eq-eqb}
 use Rattle.tq_model.specs.Names.{is_name}
-use Rattle.tq_model.specs.Reading.{raw_table, has_space, NamedSpace}
-use Rattle.tq_device.specs.Content.{named_view}
+use Rattle.tq_device.specs.FirstEntry.{table_start, has_space}
+use Rattle.tq_device.specs.declared.content.NamedSpace.{NamedSpace}
 use Rattle.tq_device.proofs.FirstEntry.{none_known, some_known, chosen_name, no_name}
 use Rattle.tq_device.proofs.judging.named.Goals as goal
 
 pub returns-in_err-name : goal.returns-in_err-name
 returns-in_err-name c =
-    let t = raw_table 0 c.args.table.now in
+    let t = table_start 0 c.args.table.now in
     let used = eq-eqb (get_or c.args.table.now 32 0) 1 c.if-table-ne1.false in
     let name = none_known (is_name t.entry.name) t.entry.name c.name_of.result c.name_of.ensures c.in_err-name.was in
-    ap (option_map named_view) c.from_residual.ensures ∙ sym (no_name {X = NamedSpace} (has_space t) (is_name t.entry.name) (record { name = t.entry.name; ordinal = t.entry.ordinal; pages = t.entry.pages }) used name)
+    c.from_residual.ensures ∙ sym (no_name {X = NamedSpace} (has_space t) (is_name t.entry.name) (record { name = t.entry.name; ordinal = t.entry.ordinal; pages = t.entry.pages }) used name)
 
 pub returns : goal.returns
 returns c =
-    let t = raw_table 0 c.args.table.now in
+    let t = table_start 0 c.args.table.now in
     let used = eq-eqb (get_or c.args.table.now 32 0) 1 c.if-table-ne1.false in
     let name = some_known (is_name t.entry.name) t.entry.name c.in_ok-name.name c.name_of.result c.name_of.ensures c.in_ok-name.was in
     let is = chosen_name {X = NamedSpace} (has_space t) (is_name t.entry.name) (record { name = t.entry.name; ordinal = t.entry.ordinal; pages = t.entry.pages }) used name.0 in

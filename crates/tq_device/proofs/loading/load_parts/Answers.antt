@@ -1,6 +1,6 @@
 use Rattle.std.proofs.Common.{◌∙◌, subst, List, ℕ, get_or, arith}
 use Rattle.tq_host.specs.Calls.{HasBytesAt}
-use Rattle.tq_model.specs.Reading.{chosen, table_a, table_b, journal_a, journal_b}
+use Rattle.tq_model.specs.DeviceForm.{chosen, table_a, table_b, journal_a, journal_b}
 use Rattle.tq_device.proofs.Reading.{found_is}
 use Rattle.tq_device.proofs.loading.load_parts.Goals as goal
 

@@ -1,4 +1,4 @@
-use Rattle.std.proofs.Common.{◌<◌, ◌∙◌, List, ℕ, length, subst, ap, sym}
+use Rattle.std.proofs.Common.{◌<◌, ◌∙◌, List, ℕ, length, subst, ap, sym, refl}
 use Rattle.std.proofs.lemmas.Result.{IfOk-weaker}
 use Rattle.tq_device.specs.declared.content.Found.{Found}
 use Rattle.tq_device.specs.Content.{IsFoundOn, IsFoundWithin, HasContent}
@@ -6,6 +6,7 @@ use Rattle.tq_run.proofs.FoundLemmas.{booted_blank, damaged_device, none_not_boo
 use Rattle.tq_run.proofs.RunDeviceLemmas.{same_found}
 use Rattle.tq_run.specs.Manager.{is_bootable}
 use Rattle.tq_run.proofs.BootStopLemmas.{still_old, looking_booting, booted_from}
+use Rattle.tq_run.proofs.LeftAloneLemmas.{alone_on}
 use Rattle.tq_run.proofs.manager.boot.Goals as goal
 
 pub returns-in_err-look-clause-stop : goal.returns-in_err-look-clause-stop
@@ -14,13 +15,15 @@ returns-in_err-look-clause-stop g c = λ t sites stand found is. still_old sites
 pub returns-in-Blank-clause-booted : goal.returns-in-Blank-clause-booted
 returns-in-Blank-clause-booted g c = λ t.
     let image = (g.H.Host.view c.args.host.now).reads 0 in
-    booted_blank (g.H.Host.view c.args.host.now) (g.H.Host.view c.look.new.host) (subst (λ (f : Found). IsFoundOn f image) c.in-Blank.is (c.in_ok-look.ensures.found t)) (c.look.ensures.still 0)
+    booted_blank _ (g.H.Host.view c.args.host.now) (g.H.Host.view c.look.new.host) refl (λ short. short) (subst (λ (f : Found). IsFoundOn f image) c.in-Blank.is (c.in_ok-look.ensures.found t)) (c.look.ensures.still 0)
 
 pub returns-in-Blank-clause-stop : goal.returns-in-Blank-clause-stop
 returns-in-Blank-clause-stop g c = λ t sites stand found is. still_old sites found (g.H.Host.view c.args.host.now) (g.H.Host.view c.look.new.host) stand c.look.ensures.stop
 
 pub returns-in-Blank-clause-on : goal.returns-in-Blank-clause-on
-returns-in-Blank-clause-on g c = λ t image may.
+returns-in-Blank-clause-on g c = λ image may.
+    let lawful = g.met.H.Host.lawful c.look.new.host in
+    let t = lawful.reads_told (lawful.stops_told 0 image may) in
     let read = (g.H.Host.view c.args.host.now).reads 0 in
     let short : length read < 131072 = subst (λ (f : Found). IsFoundOn f read) c.in-Blank.is (c.in_ok-look.ensures.found t) in
     subst (λ (l : List ℕ). length l < 131072) (sym (c.in_ok-look.ensures.settled image may ∙ c.look.ensures.still 0)) short
@@ -61,3 +64,12 @@ returns-in-Holds-clause-stop g c = λ t sites stand found is.
 
 pub returns-in-Holds-clause-settled : goal.returns-in-Holds-clause-settled
 returns-in-Holds-clause-settled g c = λ e t image may. c.in_ok-look.ensures.settled image (c.boot_content.ensures.images e 0 image may) ∙ c.look.ensures.still 0
+
+pub returns-in-Holds-clause-left_alone : goal.returns-in-Holds-clause-left_alone
+returns-in-Holds-clause-left_alone g c = λ t none.
+    let a = g.H.Host.view c.args.host.now in
+    let b = g.H.Host.view c.look.new.host in
+    alone_on a b (g.H.Host.view c.boot_content.new.host) c.look.ensures.stop (c.boot_content.ensures.left_alone t (ap is_bootable (same_found b.reads a.reads (c.look.ensures.still 0)) ∙ none))
+
+pub returns-in-Holds-clause-memory : goal.returns-in-Holds-clause-memory
+returns-in-Holds-clause-memory g c = λ e. alone_on (g.H.Host.view c.args.host.now) (g.H.Host.view c.look.new.host) (g.H.Host.view c.boot_content.new.host) c.look.ensures.stop (c.boot_content.ensures.memory e)

@@ -4,11 +4,13 @@ use Rattle.tq_host.specs.View.{IsSettled}
 use Rattle.tq_host.proofs.Within.{starts}
 use Rattle.tq_device.specs.declared.content.DeviceContent.{DeviceContent}
 use Rattle.tq_device.specs.Content.{HasContent, IsAnyStep, IsSameButJournal, raised}
-use Rattle.tq_run.specs.Manager.{site_with, ImageMatches, IsContentOn, loaded_site}
+use Rattle.tq_run.specs.Manager.{site_with, IsContentOn, loaded_site}
 use Rattle.tq_run.specs.Stops.{IsFoundOrBooted}
 use Rattle.tq_run.proofs.CountLemmas.{of_ok}
 use Rattle.tq_run.proofs.DeviceStopLemmas.{any_steps}
 use Rattle.tq_run.proofs.BootStopLemmas.{raising, raised_on, booted_is, loaded_stands}
+use Rattle.tq_run.proofs.BootStopLemmas.{can_raise}
+use Rattle.tq_run.proofs.LeftAloneLemmas.{contradicts}
 use Rattle.tq_run.proofs.manager.raise.Goals as goal
 
 pub returns-then-content-clause-stop : goal.returns-then-content-clause-stop
@@ -36,11 +38,13 @@ returns-clause-raised g c = λ t.
     record {
       below = search rules;
       site = ap (λ (x : DeviceContent). site_with (Some x) file 0) is ∙ sym (booted_is content file old (c.requires.holds t));
-      stands = subst (λ (x : DeviceContent). ImageMatches (record { content = Some x; file = file; next = 0 }) new) (sym is) (raised_on content file old new same (subst (λ (x : DeviceContent). HasContent x new) is stands) (c.requires.holds t));
+      stands = subst (λ (x : DeviceContent). IsContentOn (Some x) file 0 new) (sym is) (raised_on content file old new same (subst (λ (x : DeviceContent). HasContent x new) is stands) (c.requires.holds t));
     }
 
 pub returns-clause-on : goal.returns-clause-on
-returns-clause-on g c = λ t image may.
+returns-clause-on g c = λ image may.
+    let lawful = g.met.H.Host.lawful c.raise_epoch.new.host in
+    let t = lawful.reads_told (lawful.stops_told 0 image may) in
     let content = c.args.content.now in
     let file = c.args.file in
     let old = (g.H.Host.view c.args.host.now).reads 0 in
@@ -51,5 +55,11 @@ returns-clause-on g c = λ t image may.
     let stands : HasContent d new = (subst (λ (q : Result DeviceContent Failed). IfOk q (λ x. g.H.Host.tells.reads → HasContent x new)) ok c.raise_epoch.ensures.done) t in
     let same : IsSameButJournal old new = of_ok c.raise_epoch.result d _ ok c.raise_epoch.ensures.kept t in
     let settled : IsSettled 0 (g.H.Host.view c.raise_epoch.new.host) = of_ok c.raise_epoch.result d _ ok c.raise_epoch.ensures.settled in
-    let here : ImageMatches (record { content = Some d; file = file; next = 0 }) new = subst (λ (x : DeviceContent). ImageMatches (record { content = Some x; file = file; next = 0 }) new) (sym is) (raised_on content file old new same (subst (λ (x : DeviceContent). HasContent x new) is stands) (c.requires.holds t)) in
+    let here : IsContentOn (Some d) file 0 new = subst (λ (x : DeviceContent). IsContentOn (Some x) file 0 new) (sym is) (raised_on content file old new same (subst (λ (x : DeviceContent). HasContent x new) is stands) (c.requires.holds t)) in
     subst (λ (l : List ℕ). IsContentOn (Some d) file 0 l) (sym (settled image may)) here
+
+pub returns-in_err-raised-clause-left_alone : goal.returns-in_err-raised-clause-left_alone
+returns-in_err-raised-clause-left_alone g c = λ none. contradicts _ (can_raise c.args.content.now c.args.file (search rules)) none
+
+pub returns-clause-left_alone : goal.returns-clause-left_alone
+returns-clause-left_alone g c = λ none. contradicts _ (can_raise c.args.content.now c.args.file (search rules)) none

@@ -1,16 +1,17 @@
-use Rattle.std.proofs.Common.{◌≡◌, Result, IfErr, Err, refl, sym, subst, rules}
+use Rattle.std.proofs.Common.{◌≡◌, Result, Err, sym, subst, rules}
 use Rattle.std.proofs.lemmas.Result.{IfOk-at_ok}
 use Rattle.tq_model.specs.declared.answer.Answer.{Answer}
 use Rattle.tq_model.specs.declared.answer.Answer.TheVariants as answers
 use Rattle.tq_model.specs.MachineWithFaults.{down_answer}
 use Rattle.tq_run.specs.declared.state.State.{State}
 use Rattle.tq_run.specs.declared.state.State.TheVariants as states
-use Rattle.tq_run.specs.declared.status.RunEnd.{RunEnd}
-use Rattle.tq_run.specs.declared.status.RunEnd.TheVariants.{Memory, Device}
-use Rattle.tq_run.specs.Counts.{IsQuiet, RoseDevice, StopCounts, HasCounts}
+use Rattle.tq_run.specs.declared.status.Failure.{Failure}
+use Rattle.tq_run.specs.declared.status.Failure.TheVariants.{Memory, Device}
+use Rattle.tq_run.specs.Counts.{Rises}
+use Rattle.tq_run.specs.Serving.{CountsFailure}
 use Rattle.tq_run.specs.Standing.{HasTurned, IsTurning}
-use Rattle.tq_run.proofs.CountLemmas.{of_ok}
-use Rattle.tq_run.proofs.RespondLemmas.{served, serving, failed, failing, ended, stop_later, refused, refusing}
+use Rattle.tq_run.proofs.DeviceStopLemmas.{rest_kept}
+use Rattle.tq_run.proofs.RespondLemmas.{served, serving, failed, failing, refused, refusing}
 use Rattle.tq_run.proofs.responding.serve_standing.Goals as goal
 
 pub returns-in-Down-clause-turned : goal.returns-in-Down-clause-turned
@@ -30,48 +31,46 @@ returns-in-Ok-clause-turned g c = λ t.
     let b = g.H.Host.view c.serve-served.new.host in
     let is = c.in-Ok.is in
     let does = c.serve-served.ensures in
-    let quiet : IsQuiet a b = subst (λ (r : Result Answer RunEnd). HasCounts r a b) is does.counts in
+    let same : b.faults ≡ a.faults = subst (λ (r : Result Answer Failure). CountsFailure r a.faults b.faults) is does.failed in
     subst (λ (s : State). HasTurned s (states.Up c.serve-served.new.manager) c.args.request c.in-Ok.answer a b) (sym c.in-Up.is)
-    (served c.in-Up.manager c.args.request a b c.requires.boot c.serve-served.new.manager c.in-Ok.answer quiet.device (IfOk-at_ok _ is does.answer) (of_ok c.serve-served.result c.in-Ok.answer _ is does.site) (of_ok c.serve-served.result c.in-Ok.answer _ is does.images t.reads) (does.stop t.reads))
+    (served c.in-Up.manager c.args.request a b c.requires.boot c.serve-served.new.manager c.in-Ok.answer same (IfOk-at_ok _ is does.served) does.stop)
 
 pub returns-in-Ok-clause-stop : goal.returns-in-Ok-clause-stop
 returns-in-Ok-clause-stop g c = λ t.
     let a = g.H.Host.view c.args.host.now in
     let b = g.H.Host.view c.serve-served.new.host in
-    let quiet : IsQuiet a b = subst (λ (r : Result Answer RunEnd). HasCounts r a b) c.in-Ok.is c.serve-served.ensures.counts in
-    subst (λ (s : State). IsTurning s c.args.request a b) (sym c.in-Up.is) (serving c.in-Up.manager c.args.request a b c.requires.boot quiet.device (c.serve-served.ensures.stop t.reads))
+    let same : b.faults ≡ a.faults = subst (λ (r : Result Answer Failure). CountsFailure r a.faults b.faults) c.in-Ok.is c.serve-served.ensures.failed in
+    subst (λ (s : State). IsTurning s c.args.request a b) (sym c.in-Up.is) (serving c.in-Up.manager c.args.request a b c.requires.boot same c.serve-served.ensures.stop)
 
 pub returns-in-Err-Device-clause-turned : goal.returns-in-Err-Device-clause-turned
 returns-in-Err-Device-clause-turned g c = λ t.
     let a = g.H.Host.view c.args.host.now in
     let b = g.H.Host.view c.serve-served.new.host in
     let is : c.serve-served.result ≡ Err Device = search rules in
-    let rose : RoseDevice a b = subst (λ (r : Result Answer RunEnd). HasCounts r a b) is c.serve-served.ensures.counts in
-    subst (λ (s : State). HasTurned s states.Down c.args.request answers.SystemError a b) (sym c.in-Up.is) (failed c.in-Up.manager c.args.request a b c.requires.boot rose.device (c.serve-served.ensures.stop t.reads))
+    let rose : Rises a.faults b.faults = subst (λ (r : Result Answer Failure). CountsFailure r a.faults b.faults) is c.serve-served.ensures.failed in
+    subst (λ (s : State). HasTurned s states.Down c.args.request answers.SystemError a b) (sym c.in-Up.is) (failed c.in-Up.manager c.args.request a b c.requires.boot rose c.serve-served.ensures.stop)
 
 pub returns-in-Err-Device-clause-stop : goal.returns-in-Err-Device-clause-stop
 returns-in-Err-Device-clause-stop g c = λ t.
     let a = g.H.Host.view c.args.host.now in
     let b = g.H.Host.view c.serve-served.new.host in
     let is : c.serve-served.result ≡ Err Device = search rules in
-    let rose : RoseDevice a b = subst (λ (r : Result Answer RunEnd). HasCounts r a b) is c.serve-served.ensures.counts in
-    subst (λ (s : State). IsTurning s c.args.request a b) (sym c.in-Up.is) (failing c.in-Up.manager c.args.request a b c.requires.boot rose.device (c.serve-served.ensures.stop t.reads))
+    let rose : Rises a.faults b.faults = subst (λ (r : Result Answer Failure). CountsFailure r a.faults b.faults) is c.serve-served.ensures.failed in
+    subst (λ (s : State). IsTurning s c.args.request a b) (sym c.in-Up.is) (failing c.in-Up.manager c.args.request a b c.requires.boot rose c.serve-served.ensures.stop)
 
-pub returns-in-Err : goal.returns-in-Err
-returns-in-Err g c =
+pub returns-in-Err-Memory-clause-stop : goal.returns-in-Err-Memory-clause-stop
+returns-in-Err-Memory-clause-stop g c = λ t.
     let a = g.H.Host.view c.args.host.now in
     let b = g.H.Host.view c.serve-served.new.host in
-    let stop = c.in-Err.field-0 in
-    let counts : StopCounts stop a b = subst (λ (r : Result Answer RunEnd). HasCounts r a b) c.in-Err.is c.serve-served.ensures.counts in
-    record {
-      sound = tt;
-      next = tt;
-      holds = tt;
-      turned = tt;
-      stop = λ t.
-          subst (λ (s : State). IsTurning s c.args.request a b) (sym c.in-Up.is)
-          (ended c.in-Up.manager c.args.request a b c.requires.boot stop counts (subst (λ (r : Result Answer RunEnd). IfErr r (λ (e : RunEnd). (e ≡ Memory → ⊥) → e ≡ Device)) c.in-Err.is c.serve-served.ensures.two) (c.serve-served.ensures.stop t.reads));
-      later = stop_later stop a b counts;
-      rest = c.serve-served.ensures.rest;
-      only = refl;
-    }
+    let is : c.serve-served.result ≡ Err Memory = search rules in
+    let same : b.faults ≡ a.faults = subst (λ (r : Result Answer Failure). CountsFailure r a.faults b.faults) is c.serve-served.ensures.failed in
+    subst (λ (s : State). IsTurning s c.args.request a b) (sym c.in-Up.is) (serving c.in-Up.manager c.args.request a b c.requires.boot same c.serve-served.ensures.stop)
+
+pub returns-in-Ok-clause-rest : goal.returns-in-Ok-clause-rest
+returns-in-Ok-clause-rest g c = rest_kept _ _ _ _ c.serve-served.ensures.stop
+
+pub returns-in-Err-Device-clause-rest : goal.returns-in-Err-Device-clause-rest
+returns-in-Err-Device-clause-rest g c = rest_kept _ _ _ _ c.serve-served.ensures.stop
+
+pub returns-in-Err-Memory-clause-rest : goal.returns-in-Err-Memory-clause-rest
+returns-in-Err-Memory-clause-rest g c = rest_kept _ _ _ _ c.serve-served.ensures.stop

@@ -1,11 +1,11 @@
-use Rattle.std.proofs.Common.{◌≡◌, ℕ, List, [], ◌∷◌, Some, Result, Err, sym, ◌∙◌, ap, subst, rules}
+use Rattle.std.proofs.Common.{◌≡◌, ℕ, List, [], ◌∷◌, Some, true, Result, Ok, Err, sym, ◌∙◌, ap, subst, rules}
 use Rattle.tq_host.specs.View.{TellsAll}
 use Rattle.tq_model.specs.declared.request.Request.TheVariants.{Boot}
 use Rattle.tq_model.specs.Site.{Site}
 use Rattle.tq_model.specs.Grammar.{script_requests}
 use Rattle.tq_model.specs.Reading.{site_found}
 use Rattle.tq_run.specs.declared.status.RunEnd.{RunEnd}
-use Rattle.tq_run.specs.declared.status.RunEnd.TheVariants.{Device}
+use Rattle.tq_run.specs.declared.status.RunEnd.TheVariants.{Damaged, Memory, Device}
 use Rattle.tq_run.specs.Counts.{IsQuiet, HasRunCounts}
 use Rattle.tq_run.specs.Ending.{IsDone}
 use Rattle.tq_run.specs.Turns.{origin_of, none_failed, RunsOver}
@@ -13,10 +13,15 @@ use Rattle.tq_run.specs.Standing.{HasRun, HasStarted}
 use Rattle.tq_run.proofs.CountLemmas.{on_ok, of_ok, quiet_calm, stop_counts, run_counts_on}
 use Rattle.tq_run.proofs.LineByLineLemmas.{over_front, then_over, run_started, is_done, tells_on}
 use Rattle.tq_run.proofs.StatusLemmas.{line_0_ended, line_0_begun}
+use Rattle.tq_run.specs.Manager.{is_bootable}
+use Rattle.tq_run.proofs.LeftAloneLemmas.{contradicts, attached_later}
 use Rattle.tq_run.proofs.running.attend.Goals as goal
 
 same_error : {T : Type 0} (stop : RunEnd) → ◌≡◌ {A = Result T RunEnd} (Err stop) (Err Device) → stop ≡ Device
 same_error stop e = cc
+
+not_ok : {T : Type 0} (r : Result T RunEnd) (x : T) (stop : RunEnd) → r ≡ Ok x → r ≡ Err stop → ⊥
+not_ok r x stop ok err = cc
 
 pub returns-in_err-state-clause-stop : goal.returns-in_err-state-clause-stop
 returns-in_err-state-clause-stop g c = λ t settled found is raisable.
@@ -76,3 +81,12 @@ returns-clause-counts g c =
     let quiet : IsQuiet (g.H.Host.view c.args.host.now) (g.H.Host.view c.begin.new.host) = c.in_ok-state.ensures.counts in
     run_counts_on c.answer_script.result (g.H.Host.view c.args.host.now) (g.H.Host.view c.begin.new.host) (g.H.Host.view c.answer_script.new.host)
     (quiet_calm (g.H.Host.view c.args.host.now) (g.H.Host.view c.begin.new.host) quiet) c.answer_script.ensures.lines.1 c.answer_script.ensures.lines.0 c.answer_script.ensures.counts
+
+pub returns-clause-left_alone : goal.returns-clause-left_alone
+returns-clause-left_alone g c = λ t none.
+    let can : is_bootable (site_found 1 (g.H.Host.view c.args.host.now).reads) ≡ true = c.begin.ensures.bootable (λ e. not_ok c.begin.result c.in_ok-state.state Damaged c.in_ok-state.was e) (λ e. not_ok c.begin.result c.in_ok-state.state Device c.in_ok-state.was e) (λ e. not_ok c.begin.result c.in_ok-state.state Memory c.in_ok-state.was e) t in
+    contradicts _ can none
+
+pub returns-clause-attached : goal.returns-clause-attached
+returns-clause-attached g c = λ t.
+    attached_later (c.args.path.now ∷ []) (g.H.Host.view c.args.host.now) (g.H.Host.view c.begin.new.host) (g.H.Host.view c.answer_script.new.host) (c.in_ok-state.ensures.begun t) (c.answer_script.ensures.told t) (c.begin.ensures.attached t)

@@ -1,25 +1,29 @@
-use Rattle.std.proofs.Common.{◌≡◌, Err, length, refl, sym, ◌∙◌, ap, subst, rules}
+use Rattle.std.proofs.Common.{◌≡◌, ℕ, List, [], ◌∷◌, Option, Err, length, refl, sym, ◌∙◌, ap, subst, rules}
 use Rattle.tq_host.specs.View.{Streams}
 use Rattle.tq_host.specs.Calls.{IsGiven, IsGiving}
 use Rattle.tq_host.specs.Within.{Ran}
 use Rattle.tq_model.specs.Text.{line_text}
 use Rattle.tq_model.specs.declared.answer.Answer.{Answer}
-use Rattle.tq_run.specs.Counts.{IsQuiet}
-use Rattle.tq_run.specs.declared.status.RunEnd.TheVariants.{Damaged}
+use Rattle.tq_run.specs.declared.status.RunEnd.{RunEnd}
+use Rattle.tq_run.specs.declared.status.BootFailure.{BootFailure}
+use Rattle.tq_run.specs.declared.status.BootFailure.TheVariants as boots
+use Rattle.tq_run.specs.Counts.{end_after_boot}
+use Rattle.tq_run.specs.declared.site.Manager.{Manager}
 use Rattle.tq_run.specs.Manager.{is_bootable}
 use Rattle.tq_run.proofs.RunDeviceLemmas.{same_found, was_bootable}
 use Rattle.tq_model.proofs.LineText.{length-line_text}
 use Rattle.tq_run.proofs.Line0Lemmas.{attach_over, boot_ended, first_over, first_started, calm_none, calm_given, begun_given}
 use Rattle.tq_run.proofs.LineByLineLemmas.{tells_none, tells_given}
-use Rattle.tq_run.proofs.CountLemmas.{of_ok, ok_before, at_err}
+use Rattle.tq_run.proofs.CountLemmas.{of_ok, ok_before, at_err, boot_quiet, boot_counts, err_is, same_Err, damaged_boot}
 use Rattle.tq_run.proofs.RespondLemmas.{quiet_unless}
+use Rattle.tq_run.proofs.LeftAloneLemmas.{alone_on, alone_attached, contradicts, attached_none, attached_given, one_attached}
 use Rattle.tq_run.proofs.running.begin.Goals as goal
 
 pub returns-in_err-map_err-clause-stop : goal.returns-in_err-map_err-clause-stop
 returns-in_err-map_err-clause-stop g c = λ t settled found is raisable.
     let a = g.H.Host.view c.args.host.now in
     let b = g.H.Host.view c.attach.new.self in
-    attach_over found a b is c.attach.ensures.call c.attach.ensures.still settled
+    attach_over found a b is c.attach.ensures.call c.attach.ensures.attached settled
 
 pub returns-in_err-manager-clause-stop : goal.returns-in_err-manager-clause-stop
 returns-in_err-manager-clause-stop g c = λ t settled found is raisable.
@@ -27,7 +31,7 @@ returns-in_err-manager-clause-stop g c = λ t settled found is raisable.
     let b = g.H.Host.view c.attach.new.self in
     let d = g.H.Host.view c.boot.new.host in
     let attached : b.faults ≡ a.faults = of_ok c.attach.result _ _ (ok_before _ _ _ _ c.map_err.ensures.cases c.in_ok-map_err.was) c.attach.ensures.call.cause.ok in
-    boot_ended found a b is c.attach.ensures.call c.attach.ensures.still d c.boot.ensures.rest.streams (c.boot.ensures.stop t.reads) attached c.in_err-manager.field-0.0 c.in_err-manager.ensures.counts settled
+    boot_ended found a b is c.attach.ensures.call c.attach.ensures.attached d c.boot.ensures.rest.streams (c.boot.ensures.stop t.reads) attached (end_after_boot c.in_err-manager.field-0.0) (boot_counts Manager c.in_err-manager.field-0.0 b d c.boot.ensures.rest.streams c.in_err-manager.ensures.failed) settled
 
 pub returns-in_err-give_answer-clause-stop : goal.returns-in_err-give_answer-clause-stop
 returns-in_err-give_answer-clause-stop g c = λ t settled found is raisable.
@@ -35,11 +39,11 @@ returns-in_err-give_answer-clause-stop g c = λ t settled found is raisable.
     let b = g.H.Host.view c.attach.new.self in
     let d = g.H.Host.view c.boot.new.host in
     let e = g.H.Host.view c.give_answer.new.host in
-    let quiet : IsQuiet b d = c.in_ok-manager.ensures.counts in
+    let quiet = boot_quiet b d c.boot.ensures.rest.streams c.in_ok-manager.ensures.failed in
     let attached : b.faults ≡ a.faults = of_ok c.attach.result _ _ (ok_before _ _ _ _ c.map_err.ensures.cases c.in_ok-map_err.was) c.attach.ensures.call.cause.ok in
     let some = c.give_answer.ensures.some t.output in
-    first_over found a b is c.attach.ensures.call c.attach.ensures.still d c.boot.ensures.rest.streams (c.boot.ensures.stop t.reads) (quiet.device ∙ attached) c.in_ok-manager.manager e (c.in_ok-manager.ensures.booted t.reads)
-    (c.in_ok-manager.ensures.on t.reads) c.give_answer.ensures.faults c.give_answer.ensures.images some.0
+    first_over found a b is c.attach.ensures.call c.attach.ensures.attached d c.boot.ensures.rest.streams (c.boot.ensures.stop t.reads) (quiet.device ∙ attached) c.in_ok-manager.manager e (c.in_ok-manager.ensures.booted t.reads)
+    c.in_ok-manager.ensures.on c.give_answer.ensures.faults c.give_answer.ensures.images some.0
     (subst (λ (ans : Answer). IsGiven some.0 (line_text 0 ans) d e) c.readiness.ensures some.1) (subst (λ (ans : Answer). Ran (IsGiving (line_text 0 ans) d e) d e) c.readiness.ensures c.give_answer.ensures.gives) settled
 
 pub returns-clause-stop : goal.returns-clause-stop
@@ -48,11 +52,11 @@ returns-clause-stop g c = λ t settled found is raisable.
     let b = g.H.Host.view c.attach.new.self in
     let d = g.H.Host.view c.boot.new.host in
     let e = g.H.Host.view c.give_answer.new.host in
-    let quiet : IsQuiet b d = c.in_ok-manager.ensures.counts in
+    let quiet = boot_quiet b d c.boot.ensures.rest.streams c.in_ok-manager.ensures.failed in
     let attached : b.faults ≡ a.faults = of_ok c.attach.result _ _ (ok_before _ _ _ _ c.map_err.ensures.cases c.in_ok-map_err.was) c.attach.ensures.call.cause.ok in
     let some = c.give_answer.ensures.some t.output in
-    first_over found a b is c.attach.ensures.call c.attach.ensures.still d c.boot.ensures.rest.streams (c.boot.ensures.stop t.reads) (quiet.device ∙ attached) c.in_ok-manager.manager e (c.in_ok-manager.ensures.booted t.reads)
-    (c.in_ok-manager.ensures.on t.reads) c.give_answer.ensures.faults c.give_answer.ensures.images some.0
+    first_over found a b is c.attach.ensures.call c.attach.ensures.attached d c.boot.ensures.rest.streams (c.boot.ensures.stop t.reads) (quiet.device ∙ attached) c.in_ok-manager.manager e (c.in_ok-manager.ensures.booted t.reads)
+    c.in_ok-manager.ensures.on c.give_answer.ensures.faults c.give_answer.ensures.images some.0
     (subst (λ (ans : Answer). IsGiven some.0 (line_text 0 ans) d e) c.readiness.ensures some.1) (subst (λ (ans : Answer). Ran (IsGiving (line_text 0 ans) d e) d e) c.readiness.ensures c.give_answer.ensures.gives) settled
 
 pub returns-clause-reached : goal.returns-clause-reached
@@ -61,10 +65,10 @@ returns-clause-reached g c = λ t found is.
     let b = g.H.Host.view c.attach.new.self in
     let d = g.H.Host.view c.boot.new.host in
     let e = g.H.Host.view c.give_answer.new.host in
-    let quiet : IsQuiet b d = c.in_ok-manager.ensures.counts in
+    let quiet = boot_quiet b d c.boot.ensures.rest.streams c.in_ok-manager.ensures.failed in
     let attached : b.faults ≡ a.faults = of_ok c.attach.result _ _ (ok_before _ _ _ _ c.map_err.ensures.cases c.in_ok-map_err.was) c.attach.ensures.call.cause.ok in
-    first_started found a b is c.attach.ensures.call c.attach.ensures.still d c.boot.ensures.rest.streams (c.boot.ensures.stop t.reads) (quiet.device ∙ attached) c.in_ok-manager.manager e (c.in_ok-manager.ensures.booted t.reads)
-    (c.in_ok-manager.ensures.on t.reads) c.give_answer.ensures.faults c.give_answer.ensures.images _
+    first_started found a b is c.attach.ensures.call c.attach.ensures.attached d c.boot.ensures.rest.streams (c.boot.ensures.stop t.reads) (quiet.device ∙ attached) c.in_ok-manager.manager e (c.in_ok-manager.ensures.booted t.reads)
+    c.in_ok-manager.ensures.on c.give_answer.ensures.faults c.give_answer.ensures.images _
     (subst (λ (ans : Answer). IsGiven (length (line_text 0 ans)) (line_text 0 ans) d e) c.readiness.ensures (c.in_ok-give_answer.ensures.gave t.output))
     (subst (λ (ans : Answer). Ran (IsGiving (line_text 0 ans) d e) d e) c.readiness.ensures c.give_answer.ensures.gives) refl (c.give_answer.ensures.still 0)
 
@@ -72,16 +76,17 @@ pub returns-in_err-manager-clause-damaged : goal.returns-in_err-manager-clause-d
 returns-in_err-manager-clause-damaged g c = λ e t.
     let a = (g.H.Host.view c.args.host.now).reads in
     let b = (g.H.Host.view c.attach.new.self).reads in
-    let failed : c.boot.result ≡ Err Damaged = search rules in
-    ap is_bootable (sym (same_found b a (c.attach.ensures.still.reads 0))) ∙ c.boot.ensures.damaged failed t
+    let ends : c.from_residual-in_err-manager.result ≡ Err (end_after_boot c.in_err-manager.field-0.0) = err_is _ _ c.from_residual-in_err-manager.ensures.1 in
+    let failed : c.boot.result ≡ Err boots.Damaged = c.in_err-manager.was ∙ ap (λ (x : BootFailure). Err x) (damaged_boot c.in_err-manager.field-0.0 (same_Err _ _ (sym ends ∙ e))) in
+    ap is_bootable (sym (same_found b a (c.attach.ensures.attached.reads 0))) ∙ c.boot.ensures.damaged failed t
 
 pub returns-in_err-give_answer-clause-bootable : goal.returns-in_err-give_answer-clause-bootable
 returns-in_err-give_answer-clause-bootable g c = λ damaged device memory t.
-    was_bootable c.in_ok-manager.manager (g.H.Host.view c.args.host.now) (g.H.Host.view c.attach.new.self) (g.H.Host.view c.boot.new.host) (c.attach.ensures.still.reads 0) (c.in_ok-manager.ensures.booted t)
+    was_bootable c.in_ok-manager.manager (g.H.Host.view c.args.host.now) (g.H.Host.view c.attach.new.self) (g.H.Host.view c.boot.new.host) (c.attach.ensures.attached.reads 0) (c.in_ok-manager.ensures.booted t)
 
 pub returns-clause-bootable : goal.returns-clause-bootable
 returns-clause-bootable g c = λ damaged device memory t.
-    was_bootable c.in_ok-manager.manager (g.H.Host.view c.args.host.now) (g.H.Host.view c.attach.new.self) (g.H.Host.view c.boot.new.host) (c.attach.ensures.still.reads 0) (c.in_ok-manager.ensures.booted t)
+    was_bootable c.in_ok-manager.manager (g.H.Host.view c.args.host.now) (g.H.Host.view c.attach.new.self) (g.H.Host.view c.boot.new.host) (c.attach.ensures.attached.reads 0) (c.in_ok-manager.ensures.booted t)
 
 pub returns-in_err-manager-clause-calm : goal.returns-in_err-manager-clause-calm
 returns-in_err-manager-clause-calm g c =
@@ -90,8 +95,11 @@ returns-in_err-manager-clause-calm g c =
     let d = g.H.Host.view c.boot.new.host in
     let attached : b.faults ≡ a.faults = of_ok c.attach.result _ _ (ok_before _ _ _ _ c.map_err.ensures.cases c.in_ok-map_err.was) c.attach.ensures.call.cause.ok in
     let result = c.from_residual-in_err-manager.result in
-    let same : result ≡ Err c.in_err-manager.field-0.0 = search rules in
-    at_err result _ (λ no t. calm_none a d (ap (λ (s : Streams). s.stamps) (c.boot.ensures.rest.streams ∙ c.attach.ensures.call.streams)) (quiet_unless c.in_err-manager.field-0.0 b d c.in_err-manager.ensures.counts (λ e. no (same ∙ ap Err e)) ∙ attached))
+    let failure = c.in_err-manager.field-0.0 in
+    let same : result ≡ Err (end_after_boot failure) = err_is _ _ c.from_residual-in_err-manager.ensures.1 in
+    at_err result _
+    (λ no t. calm_none a d (ap (λ (s : Streams). s.stamps) (c.boot.ensures.rest.streams ∙ c.attach.ensures.call.streams))
+    (quiet_unless (end_after_boot failure) b d (boot_counts Manager failure b d c.boot.ensures.rest.streams c.in_err-manager.ensures.failed) (λ e. no (same ∙ ap (λ (x : RunEnd). Err x) e)) ∙ attached))
 
 pub returns-in_err-give_answer-clause-calm : goal.returns-in_err-give_answer-clause-calm
 returns-in_err-give_answer-clause-calm g c =
@@ -99,7 +107,7 @@ returns-in_err-give_answer-clause-calm g c =
     let b = g.H.Host.view c.attach.new.self in
     let d = g.H.Host.view c.boot.new.host in
     let e = g.H.Host.view c.give_answer.new.host in
-    let quiet : IsQuiet b d = c.in_ok-manager.ensures.counts in
+    let quiet = boot_quiet b d c.boot.ensures.rest.streams c.in_ok-manager.ensures.failed in
     let attached : b.faults ≡ a.faults = of_ok c.attach.result _ _ (ok_before _ _ _ _ c.map_err.ensures.cases c.in_ok-map_err.was) c.attach.ensures.call.cause.ok in
     at_err c.from_residual-in_err-give_answer.result _
     (λ no t. let some = c.give_answer.ensures.some t in calm_given a d e some.0 _ (c.boot.ensures.rest.streams ∙ c.attach.ensures.call.streams) (quiet.device ∙ attached) c.give_answer.ensures.faults some.1)
@@ -110,7 +118,7 @@ returns-clause-begun g c = λ t.
     let b = g.H.Host.view c.attach.new.self in
     let d = g.H.Host.view c.boot.new.host in
     let e = g.H.Host.view c.give_answer.new.host in
-    let quiet : IsQuiet b d = c.in_ok-manager.ensures.counts in
+    let quiet = boot_quiet b d c.boot.ensures.rest.streams c.in_ok-manager.ensures.failed in
     let attached : b.faults ≡ a.faults = of_ok c.attach.result _ _ (ok_before _ _ _ _ c.map_err.ensures.cases c.in_ok-map_err.was) c.attach.ensures.call.cause.ok in
     begun_given a d e _ (length-line_text 0 _) (c.boot.ensures.rest.streams ∙ c.attach.ensures.call.streams) (quiet.device ∙ attached) (c.in_ok-give_answer.ensures.gave t)
 
@@ -128,3 +136,45 @@ returns-in_err-give_answer-clause-told g c = λ t.
 pub returns-clause-told : goal.returns-clause-told
 returns-clause-told g c = λ t.
     tells_given (g.H.Host.view c.args.host.now) (g.H.Host.view c.boot.new.host) (g.H.Host.view c.give_answer.new.host) (c.boot.ensures.rest.streams ∙ c.attach.ensures.call.streams) (c.give_answer.ensures.some t).0 _ (c.give_answer.ensures.some t).1
+
+pub returns-in_err-map_err-clause-left_alone : goal.returns-in_err-map_err-clause-left_alone
+returns-in_err-map_err-clause-left_alone g c = λ t none. alone_attached (g.H.Host.view c.args.host.now) (g.H.Host.view c.attach.new.self) c.attach.result c.attach.ensures.call c.attach.ensures.attached
+
+pub returns-in_err-manager-clause-left_alone : goal.returns-in_err-manager-clause-left_alone
+returns-in_err-manager-clause-left_alone g c = λ t none.
+    let a = g.H.Host.view c.args.host.now in
+    let b = g.H.Host.view c.attach.new.self in
+    alone_on a b (g.H.Host.view c.boot.new.host) (alone_attached a b c.attach.result c.attach.ensures.call c.attach.ensures.attached)
+    (c.boot.ensures.left_alone t (ap is_bootable (same_found b.reads a.reads (c.attach.ensures.attached.reads 0)) ∙ none))
+
+pub returns-in_err-give_answer-clause-left_alone : goal.returns-in_err-give_answer-clause-left_alone
+returns-in_err-give_answer-clause-left_alone g c = λ t none.
+    contradicts _ (was_bootable c.in_ok-manager.manager (g.H.Host.view c.args.host.now) (g.H.Host.view c.attach.new.self) (g.H.Host.view c.boot.new.host) (c.attach.ensures.attached.reads 0) (c.in_ok-manager.ensures.booted t)) none
+
+pub returns-clause-left_alone : goal.returns-clause-left_alone
+returns-clause-left_alone g c = λ t none.
+    contradicts _ (was_bootable c.in_ok-manager.manager (g.H.Host.view c.args.host.now) (g.H.Host.view c.attach.new.self) (g.H.Host.view c.boot.new.host) (c.attach.ensures.attached.reads 0) (c.in_ok-manager.ensures.booted t)) none
+
+pub returns-in_err-map_err-clause-attached : goal.returns-in_err-map_err-clause-attached
+returns-in_err-map_err-clause-attached g c = λ t.
+    attached_none (c.args.path.now ∷ []) (g.H.Host.view c.args.host.now) (g.H.Host.view c.attach.new.self) (ap (λ (s : Streams). s.stamps) c.attach.ensures.call.streams)
+
+pub returns-in_err-manager-clause-attached : goal.returns-in_err-manager-clause-attached
+returns-in_err-manager-clause-attached g c = λ t.
+    attached_none (c.args.path.now ∷ []) (g.H.Host.view c.args.host.now) (g.H.Host.view c.boot.new.host) (ap (λ (s : Streams). s.stamps) (c.boot.ensures.rest.streams ∙ c.attach.ensures.call.streams))
+
+pub returns-in_err-give_answer-clause-attached : goal.returns-in_err-give_answer-clause-attached
+returns-in_err-give_answer-clause-attached g c = λ t.
+    let d = g.H.Host.view c.boot.new.host in
+    let own = of_ok c.attach.result _ _ (ok_before _ _ _ _ c.map_err.ensures.cases c.in_ok-map_err.was) c.attach.ensures.attached.own t in
+    let some = c.give_answer.ensures.some t in
+    attached_given (c.args.path.now ∷ []) (g.H.Host.view c.args.host.now) d (g.H.Host.view c.give_answer.new.host) some.0 _ (c.boot.ensures.rest.streams ∙ c.attach.ensures.call.streams)
+    (one_attached c.args.path.now d.attached (ap (λ (f : ℕ → Option (List ℕ)). f 0) c.boot.ensures.rest.attached ∙ own)) some.1
+
+pub returns-clause-attached : goal.returns-clause-attached
+returns-clause-attached g c = λ t.
+    let d = g.H.Host.view c.boot.new.host in
+    let own = of_ok c.attach.result _ _ (ok_before _ _ _ _ c.map_err.ensures.cases c.in_ok-map_err.was) c.attach.ensures.attached.own t in
+    let some = c.give_answer.ensures.some t in
+    attached_given (c.args.path.now ∷ []) (g.H.Host.view c.args.host.now) d (g.H.Host.view c.give_answer.new.host) some.0 _ (c.boot.ensures.rest.streams ∙ c.attach.ensures.call.streams)
+    (one_attached c.args.path.now d.attached (ap (λ (f : ℕ → Option (List ℕ)). f 0) c.boot.ensures.rest.attached ∙ own)) some.1

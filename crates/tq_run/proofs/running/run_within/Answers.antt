@@ -1,4 +1,5 @@
-use Rattle.std.proofs.Common.{◌≡◌, ◌⊎◌, ◌∙◌, subst, sym, refl, Err, Result, ◌∷◌, ap}
+use Rattle.std.proofs.Common.{◌≡◌, Some, List, ℕ, ◌⊎◌, ◌∙◌, subst, sym, refl, Err, Result, [], ◌∷◌, ap}
+use Rattle.std.specs.Option.{option_copied}
 use Rattle.tq_host.specs.Calls.{HasCauseOf}
 use Rattle.tq_host.proofs.Running.{ran_start}
 use Rattle.tq_model.specs.declared.request.Request.TheVariants.{Boot}
@@ -15,7 +16,12 @@ use Rattle.tq_run.proofs.CountLemmas.{read_cause, write_cause}
 use Rattle.tq_run.proofs.LineByLineLemmas.{on_none, is_safe}
 use Rattle.tq_run.proofs.StatusLemmas.{not_risen, damaged_always, complete, done, is_device}
 use Rattle.tq_run.proofs.TurnLemmas.{starts_answered}
+use Rattle.tq_run.specs.Output.{BeginsAttached}
+use Rattle.tq_run.proofs.LeftAloneLemmas.{is_left_alone, alone_start, attached_none}
 use Rattle.tq_run.proofs.running.run_within.Goals as goal
+
+same_path : (x y : List ℕ) → Some x ≡ Some y → x ≡ y
+same_path x y e = cc
 
 pub returns-in-None-clause-line_0 : goal.returns-in-None-clause-line_0
 returns-in-None-clause-line_0 g c = λ t added is rose.
@@ -74,3 +80,26 @@ returns-in-None-clause-stop g c = λ t settled found is raisable.
 
 pub returns-in-Some-clause-stop : goal.returns-in-Some-clause-stop
 returns-in-Some-clause-stop g c = λ t settled found is raisable. is_safe (g.met.H.Host.lawful c.args.host.now) found settled is (c.attend.ensures.stop t settled found is raisable)
+
+pub returns-in-None-clause-left_alone : goal.returns-in-None-clause-left_alone
+returns-in-None-clause-left_alone g c = λ t none.
+    let v = g.H.Host.view c.args.host.now in
+    is_left_alone v v (g.met.H.Host.lawful c.args.host.now) (alone_start v)
+
+pub returns-in-Some-clause-left_alone : goal.returns-in-Some-clause-left_alone
+returns-in-Some-clause-left_alone g c = λ t none.
+    is_left_alone (g.H.Host.view c.args.host.now) (g.H.Host.view c.attend.new.host) (g.met.H.Host.lawful c.args.host.now) (c.attend.ensures.left_alone t none)
+
+pub returns-in-Some-clause-bootable : goal.returns-in-Some-clause-bootable
+returns-in-Some-clause-bootable g c = λ usage damaged device memory t.
+    c.attend.ensures.bootable (λ e. damaged 0 (c.status_of.ensures ∙ ap status_for e)) (λ e. device (c.status_of.ensures ∙ ap status_for e)) (λ e. memory (c.status_of.ensures ∙ ap status_for e)) t
+
+pub returns-in-None-clause-attached : goal.returns-in-None-clause-attached
+returns-in-None-clause-attached g c = λ t path is.
+    let v = g.H.Host.view c.args.host.now in
+    attached_none (path ∷ []) v v refl
+
+pub returns-in-Some-clause-attached : goal.returns-in-Some-clause-attached
+returns-in-Some-clause-attached g c = λ t path is.
+    let word : Some c.in-Some.path.now ≡ Some path = ap option_copied (sym c.in-Some.is) ∙ c.device_path.ensures ∙ is in
+    subst (λ (l : List ℕ). BeginsAttached (l ∷ []) (g.H.Host.view c.args.host.now) (g.H.Host.view c.attend.new.host)) (same_path _ _ word) (c.attend.ensures.attached t)

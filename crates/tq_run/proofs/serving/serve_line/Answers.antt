@@ -8,9 +8,10 @@ use Rattle.tq_model.specs.MachineWithFaults.{Failures}
 use Rattle.tq_model.specs.Site.{Site}
 use Rattle.tq_model.specs.Text.{line_text}
 use Rattle.tq_model.specs.Grammar.{line_request}
-use Rattle.tq_run.specs.Standing.{HasReached, HasRun, HasTurned, IsTurning, ReadMatches}
+use Rattle.tq_run.specs.Standing.{HasReached, HasRun, HasTurned, IsTurning, StateImagesMatch}
 use Rattle.tq_run.specs.Turns.{Origin}
 use Rattle.tq_run.proofs.CountLemmas.{on_ok, of_ok, ok_before}
+use Rattle.tq_run.proofs.RespondLemmas.{still_match}
 use Rattle.tq_run.proofs.LineByLineLemmas.{done_line, given_line, line_run, over_waiting}
 use Rattle.tq_run.proofs.serving.serve_line.Goals as goal
 
@@ -54,8 +55,6 @@ returns-clause-reached g c =
     (length (line_text (length done) answer)) (subst (λ (l : List ℕ). IsGiven (length l) l b d) line (of_ok c.give_answer.result x _ ok c.give_answer.ensures.gave t.output))
     (subst (λ (l : List ℕ). Ran (IsGiving l b d) b d) line c.give_answer.ensures.gives) refl (c.give_answer.ensures.still 0))
 
-pub returns-clause-holds : goal.returns-clause-holds
-returns-clause-holds g c =
-    let d = g.H.Host.view c.give_answer.new.host in
-    let s = c.respond.new.state in
-    on_ok c.give_answer.result (g.H.Host.tells.reads → ReadMatches s (d.reads 0)) (λ x ok. λ t. subst (λ (l : List ℕ). ReadMatches s l) (sym (c.give_answer.ensures.still 0)) (c.in_ok-answer.ensures.holds t))
+pub returns-clause-on : goal.returns-clause-on
+returns-clause-on g c =
+    on_ok c.give_answer.result (StateImagesMatch c.respond.new.state (g.H.Host.view c.give_answer.new.host)) (λ x ok. still_match c.respond.new.state _ _ c.give_answer.ensures.images c.in_ok-answer.ensures.on)

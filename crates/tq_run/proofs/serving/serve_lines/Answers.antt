@@ -11,9 +11,8 @@ loop-line-init g c =
     let start = g.H.Host.view c.args.host.now in
     record {
       count = omega arith;
-      sound = c.requires.sound;
       numbers = c.requires.numbers;
-      holds = c.requires.holds;
+      on = c.requires.on;
       input = search rules;
       calm = calm start;
       told = λ t. tells_none start start refl;
@@ -33,9 +32,8 @@ loop-line-preserved g c =
     let quiet : IsCalm mid new = c.in_ok-serve_line.ensures.counts in
     record {
       count = omega (arith, inv.count, shorter);
-      sound = c.in_ok-serve_line.ensures.sound;
       numbers = omega (arith, inv.numbers, shorter, c.in_ok-serve_line.ensures.next);
-      holds = c.in_ok-serve_line.ensures.holds;
+      on = c.in_ok-serve_line.ensures.on;
       input = search rules;
       calm = calm_on start mid new inv.calm quiet;
       told = λ t. tells_on start mid new (inv.told t) (c.serve_line.ensures.told t);

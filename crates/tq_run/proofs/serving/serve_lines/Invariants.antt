@@ -7,7 +7,7 @@ use Rattle.tq_model.specs.Grammar.{script_requests}
 use Rattle.tq_run.specs.Counts.{IsCalm}
 use Rattle.tq_run.specs.Output.{TellsMore, KeepsInput}
 use Rattle.tq_run.specs.Turns.{Origin}
-use Rattle.tq_run.specs.Standing.{IsWellFormed, next_of, ReadMatches, HasReached}
+use Rattle.tq_run.specs.Standing.{next_of, StateImagesMatch, HasReached}
 use Rattle.tq_run.proofs.LineByLineLemmas.{IsSoFar}
 use Rattle.tq_run.proofs.serving.serve_lines.Given as goal
 
@@ -17,9 +17,8 @@ invariant-loop-line g l =
     let now = g.H.Host.view l.host in
     record {
       count : l.number + length l.rest ≤ length l.script + 1;
-      sound : IsWellFormed l.state;
       numbers : next_of l.state + length l.rest ≤ 4294967295;
-      holds : g.H.Host.tells.reads → ReadMatches l.state (now.reads 0);
+      on : StateImagesMatch l.state now;
       input : KeepsInput start now;
       calm : IsCalm start now;
       told : g.H.Host.tells.output → TellsMore start now;

@@ -5,52 +5,49 @@ use Rattle.tq_device.specs.Content.{IsAnyStep}
 use Rattle.tq_spacefile.specs.File.{IsFormatted}
 use Rattle.tq_spacefile.specs.Place.{space_end}
 use Rattle.tq_run.specs.Spaces.{IsBareOrNew}
-use Rattle.tq_run.proofs.CountLemmas.{of_ok, ok_before, on_mapped}
+use Rattle.tq_run.proofs.CountLemmas.{if_ok, of_ok}
 use Rattle.tq_device.proofs.Offered.{below_stands}
 use Rattle.tq_device.proofs.Longer.{longer_stands}
 use Rattle.tq_run.proofs.SpaceCreationLemmas.{growing, preparing, entering, still_bare, settled_all, formatted_kept}
 use Rattle.tq_run.proofs.DeviceStopLemmas.{any_steps}
 use Rattle.tq_run.proofs.spaces.lay_out.Goals as goal
 
-pub returns-in_err-map_err-clause-stop : goal.returns-in_err-map_err-clause-stop
-returns-in_err-map_err-clause-stop g c = λ stand.
+pub returns-in_err-grow-clause-stop : goal.returns-in_err-grow-clause-stop
+returns-in_err-grow-clause-stop g c = λ stand.
     let d = c.args.content.now in
     still_bare d c.args.name c.args.shape.now _ _ (growing d c.args.name c.args.shape.now _ _ c.requires.bare stand c.grow.ensures.stop)
 
-pub returns-in_err-map_err-2-clause-stop : goal.returns-in_err-map_err-2-clause-stop
-returns-in_err-map_err-2-clause-stop g c = λ stand.
+pub returns-in_err-format-clause-stop : goal.returns-in_err-format-clause-stop
+returns-in_err-format-clause-stop g c = λ stand.
     let d = c.args.content.now in
     let name = c.args.name in
     let shape = c.args.shape.now in
-    let before = ok_before _ _ _ _ c.map_err.ensures.cases c.in_ok-map_err.was in
-    let grown = of_ok c.grow.result _ _ before c.grow.ensures.done in
-    let long = settled_all (λ image. space_end shape.pages ≤ length image) _ (g.met.H.Host.lawful c.grow.new.host) (of_ok c.grow.result _ _ before c.grow.ensures.settled) (λ t. omega (arith, (grown t).1, c.clusters_for.ensures, c.from.ensures)) in
+    let grown = c.in_ok-grow.ensures.done in
+    let long = settled_all (λ image. space_end shape.pages ≤ length image) _ (g.met.H.Host.lawful c.grow.new.host) c.in_ok-grow.ensures.settled (λ t. omega (arith, (grown t).1, c.clusters_for.ensures, c.from.ensures)) in
     still_bare d name shape _ _ (preparing d name shape _ _ _ c.requires.bare stand c.grow.ensures.stop (c.format.ensures.stop long))
 
 pub enter-requires-clause-holds : goal.enter-requires-clause-holds
 enter-requires-clause-holds g c = λ t.
     let d = c.args.content.now in
-    let grown = of_ok c.grow.result _ _ (ok_before _ _ _ _ c.map_err.ensures.cases c.in_ok-map_err.was) c.grow.ensures.done t in
-    let kept = of_ok c.format.result _ _ (ok_before _ _ _ _ c.map_err-2.ensures.cases c.in_ok-map_err-2.was) c.format.ensures.kept t in
+    let grown = c.in_ok-grow.ensures.done t in
+    let kept = c.in_ok-format.ensures.kept t in
     below_stands d _ _ kept.size kept.bytes (longer_stands d _ _ c.requires.bare grown.0 (c.requires.holds t))
 
 pub enter-requires-clause-reach : goal.enter-requires-clause-reach
 enter-requires-clause-reach g c = λ t.
-    let grown = of_ok c.grow.result _ _ (ok_before _ _ _ _ c.map_err.ensures.cases c.in_ok-map_err.was) c.grow.ensures.done t in
-    let kept = of_ok c.format.result _ _ (ok_before _ _ _ _ c.map_err-2.ensures.cases c.in_ok-map_err-2.was) c.format.ensures.kept t in
+    let grown = c.in_ok-grow.ensures.done t in
+    let kept = c.in_ok-format.ensures.kept t in
     omega (arith, grown.1, kept.size, c.clusters_for.ensures, c.from.ensures)
 
 pub returns-clause-done : goal.returns-clause-done
-returns-clause-done g c = on_mapped c.enter.result c.map_err-3.result _ _ c.map_err-3.ensures.cases (λ x ok. λ t.
+returns-clause-done g c = if_ok c.enter.result _ (λ x ok. λ t.
     let shape = c.args.shape.now in
-    let before = ok_before _ _ _ _ c.map_err-2.ensures.cases c.in_ok-map_err-2.was in
-    let grown = of_ok c.grow.result _ _ (ok_before _ _ _ _ c.map_err.ensures.cases c.in_ok-map_err.was) c.grow.ensures.done t in
-    let laid = of_ok c.format.result _ _ before c.format.ensures.kept t in
-    let formatted = of_ok c.format.result _ _ before c.format.ensures.done t in
+    let grown = c.in_ok-grow.ensures.done t in
+    let laid = c.in_ok-format.ensures.kept t in
     let kept = of_ok c.enter.result x _ ok c.enter.ensures.kept t in
     record {
       stands = IfOk-at_ok _ ok c.enter.ensures.done t;
-      formatted = formatted_kept shape _ _ kept.size (λ k le. kept.bytes k (inr (omega arith)) (inr (omega arith))) formatted;
+      formatted = formatted_kept shape _ _ kept.size (λ k le. kept.bytes k (inr (omega arith)) (inr (omega arith))) (c.in_ok-format.ensures.done t);
       reach = omega (arith, grown.1, laid.size, kept.size, c.clusters_for.ensures, c.from.ensures);
     })
 
@@ -60,15 +57,13 @@ returns-clause-stop g c = λ stand.
     let name = c.args.name in
     let shape = c.args.shape.now in
     let old = g.H.Host.view c.args.host.now in
-    let grown = ok_before _ _ _ _ c.map_err.ensures.cases c.in_ok-map_err.was in
-    let before = ok_before _ _ _ _ c.map_err-2.ensures.cases c.in_ok-map_err-2.was in
-    let first = of_ok c.grow.result _ _ grown c.grow.ensures.done in
-    let long = settled_all (λ image. space_end shape.pages ≤ length image) _ (g.met.H.Host.lawful c.grow.new.host) (of_ok c.grow.result _ _ grown c.grow.ensures.settled) (λ t. omega (arith, (first t).1, c.clusters_for.ensures, c.from.ensures)) in
+    let first = c.in_ok-grow.ensures.done in
+    let long = settled_all (λ image. space_end shape.pages ≤ length image) _ (g.met.H.Host.lawful c.grow.new.host) c.in_ok-grow.ensures.settled (λ t. omega (arith, (first t).1, c.clusters_for.ensures, c.from.ensures)) in
     let both = preparing d name shape _ _ _ c.requires.bare stand c.grow.ensures.stop (c.format.ensures.stop long) in
-    let laid = of_ok c.format.result _ _ before c.format.ensures.kept in
+    let laid = c.in_ok-format.ensures.kept in
     let lawful = g.met.H.Host.lawful c.format.new.host in
-    let settled = of_ok c.format.result _ _ before c.format.ensures.settled in
-    let pages = settled_all (IsFormatted shape) _ lawful settled (of_ok c.format.result _ _ before c.format.ensures.done) in
+    let settled = c.in_ok-format.ensures.settled in
+    let pages = settled_all (IsFormatted shape) _ lawful settled c.in_ok-format.ensures.done in
     let reach = settled_all (λ image. space_end shape.pages ≤ length image) _ lawful settled (λ t. omega (arith, (first t).1, (laid t).size, c.clusters_for.ensures, c.from.ensures)) in
     in_a_row 0 IsAnyStep any_steps (IsBareOrNew d name shape) old _ _ (still_bare d name shape _ _ both)
     (entering d name shape _ _ (λ image may. (pages image may, reach image may))

@@ -1,5 +1,6 @@
-use Rattle.std.proofs.Common.{◌≡◌, length, sym, ◌∙◌, arith}
-use Rattle.tq_spacefile.proofs.Pages.{shape_in-stands}
+use Rattle.std.proofs.Common.{◌≡◌, length, sym, ap, ◌∙◌, arith}
+use Rattle.tq_spacefile.specs.Page.{shape_in}
+use Rattle.tq_spacefile.proofs.LogicalBytes.{page-stands}
 use Rattle.tq_spacefile.specs.declared.fault.FileError.TheVariants.{Damaged, Device}
 use Rattle.tq_spacefile.proofs.Loads.{error_is}
 use Rattle.tq_spacefile.proofs.loading.read_shape.Goals as goal
@@ -18,13 +19,15 @@ returns-in-Some-clause-shape g c = λ told.
     let page = c.read_at.new.into in
     let image = (g.H.Host.view c.args.host.now).reads c.args.place.now.dev in
     let long : length page ≡ 1024 = omega arith in
-    let stands = shape_in-stands c.args.place.now.pages 131072 page image (c.in_ok-read_at.ensures.bytes told) long (omega (arith, c.requires.reach told, c.requires.place.least)) c.decode_page.ensures.size in
-    sym stands ∙ sym c.decode_page.ensures.shape ∙ c.in-Some.is
+    let pages = c.args.place.now.pages in
+    let same = page-stands pages page image c.requires.place.least (c.in_ok-read_at.ensures.bytes told) long (omega (arith, c.requires.reach told, c.requires.place.least)) in
+    sym (ap (shape_in pages) same) ∙ sym c.decode_page.ensures.shape ∙ c.in-Some.is
 
 pub returns-in-None-clause-damaged : goal.returns-in-None-clause-damaged
 returns-in-None-clause-damaged g c = λ is told.
     let page = c.read_at.new.into in
     let image = (g.H.Host.view c.args.host.now).reads c.args.place.now.dev in
     let long : length page ≡ 1024 = omega arith in
-    let stands = shape_in-stands c.args.place.now.pages 131072 page image (c.in_ok-read_at.ensures.bytes told) long (omega (arith, c.requires.reach told, c.requires.place.least)) c.decode_page.ensures.size in
-    sym stands ∙ sym c.decode_page.ensures.shape ∙ c.in-None.is
+    let pages = c.args.place.now.pages in
+    let same = page-stands pages page image c.requires.place.least (c.in_ok-read_at.ensures.bytes told) long (omega (arith, c.requires.reach told, c.requires.place.least)) in
+    sym (ap (shape_in pages) same) ∙ sym c.decode_page.ensures.shape ∙ c.in-None.is

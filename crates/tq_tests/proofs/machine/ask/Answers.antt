@@ -1,7 +1,7 @@
 use Rattle.std.proofs.Common.{arith, ap}
 use Rattle.tq_model.specs.Site.{Site}
 use Rattle.tq_model.proofs.NextNumber.{step-next}
-use Rattle.tq_model.proofs.Refusals.{either-way}
+use Rattle.tq_machine.proofs.OptionLemmas.{either-way}
 use Rattle.tq_tests.proofs.machine.ask.Goals as goal
 
 pub returns : goal.returns

@@ -2,4 +2,4 @@ use Rattle.tq_files.proofs.Calls.{device_call}
 use Rattle.tq_files.proofs.file_host.FileHostHost.attach.Goals as goal
 
 pub returns-clause-call : goal.returns-clause-call
-returns-clause-call c = device_call c.args.self.now.tally c.count.new.self c.count.ensures.grown c.count.result c.count.ensures.ok c.count.ensures.err
+returns-clause-call c = device_call c.args.self.now.account.tally c.count.new.self.tally c.count.ensures.grown c.count.result c.count.ensures.ok c.count.ensures.err

@@ -1,4 +1,4 @@
-use Rattle.std.proofs.Common.{refl}
+use Rattle.std.proofs.Common.{length, refl}
 use Rattle.tq_host.specs.declared.counts.Part.TheVariants.{Output}
 use Rattle.tq_host.specs.Events.{give_all, pass}
 use Rattle.tq_host.specs.declared.kind.CallKind.TheVariants as kind
@@ -10,7 +10,7 @@ pub returns-clause-call : goal.returns-clause-call
 returns-clause-call c =
     let old = c.args.self.now.outside in
     let new = c.give.new.self in
-    stream_call Output c.give.result (λ _. give_all c.args.from.now old.counts.device) (pass kind.Give) (account_of old) (account_of new) (λ x s. refl) (λ s. refl) (λ d. refl) (small_of new) c.give.ensures.recorded
+    stream_call Output c.give.result (λ _. give_all c.args.from.now (length (account_of old).events) old.counts.device) (pass kind.Give) (account_of old) (account_of new) (λ x. record { disks = λ s. refl; attached = λ s. refl }) (record { disks = λ s. refl; attached = λ s. refl }) (λ d. refl) (small_of new) c.give.ensures.recorded
 
 pub returns-clause-gave : goal.returns-clause-gave
 returns-clause-gave c =
@@ -22,4 +22,4 @@ pub returns-clause-time : goal.returns-clause-time
 returns-clause-time c =
     let old = c.args.self.now.outside in
     let new = c.give.new.self in
-    give_time c.give.result c.args.from.now old.counts.device kind.Give (account_of old) (account_of new) c.give.ensures.recorded
+    give_time c.give.result c.args.from.now (length (account_of old).events) old.counts.device kind.Give (account_of old) (account_of new) c.give.ensures.recorded

@@ -10,7 +10,7 @@ pub returns-clause-call : goal.returns-clause-call
 returns-clause-call c =
     let old = c.args.self.now.outside in
     let new = c.take.new.self in
-    stream_call Input c.take.result take_some (pass kind.Take) (account_of old) (account_of new) (λ x s. refl) (λ s. refl) (λ d. refl) (small_of new) c.take.ensures.recorded
+    stream_call Input c.take.result take_some (pass kind.Take) (account_of old) (account_of new) (λ x. record { disks = λ s. refl; attached = λ s. refl }) (record { disks = λ s. refl; attached = λ s. refl }) (λ d. refl) (small_of new) c.take.ensures.recorded
 
 pub returns-clause-took : goal.returns-clause-took
 returns-clause-took c =

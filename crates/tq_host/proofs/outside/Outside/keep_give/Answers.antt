@@ -10,7 +10,7 @@ invariant_of-self-2 c =
     let v = c.in_ok-bytes.bytes in
     let same : v.items ≡ c.args.from.now = search rules in
     let grown : c.extend_from_slice.new.self.items ≡ old.output.items ++ c.args.from.now = search rules in
-    let e = after_call old.calls.items c.push_call.new.calls.items (Give v old.counts.device) c.in_ok-push_call.ensures.ok in
+    let e = after_call old.calls.items c.push_call.new.calls.items (Give v c.len-clock.result old.counts.device) c.in_ok-push_call.ensures.ok in
     record {
       eight = old.eight;
       shows = λ d other lt. old.shows d other lt ∙ sym (ap (λ (n : State). (n.disks d).seen) e);

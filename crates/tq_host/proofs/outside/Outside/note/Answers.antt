@@ -1,6 +1,6 @@
 use Rattle.std.proofs.Common.{◌≡◌, ◌<◌, List, ◌++◌, [], ◌∷◌, length, refl, sym, ◌∙◌, subst}
 use Rattle.tq_host.specs.declared.call.Call.{Call}
-use Rattle.tq_host.specs.View.{last}
+use Rattle.tq_host.specs.View.{last_count}
 use Rattle.tq_host.specs.Events.{State, blank, replay, events_of, LeavesAll}
 use Rattle.tq_host.proofs.Replaying.{after_call, either}
 use Rattle.tq_host.proofs.outside.Outside.note.Goals as goal
@@ -23,5 +23,5 @@ invariant_of-self c =
       gave = old.gave ∙ sym leaves.output;
       took = old.took ∙ sym leaves.taken;
       within = old.within;
-      small = either c.push_call.result (length new < last) B (length new < last) c.push_call.ensures.small c.push_call.ensures.err (λ lt. lt) (λ is. subst (λ (l : List Call). length l < last) (sym is) old.small);
+      small = either c.push_call.result (length new < last_count) B (length new < last_count) c.push_call.ensures.small c.push_call.ensures.err (λ lt. lt) (λ is. subst (λ (l : List Call). length l < last_count) (sym is) old.small);
     }

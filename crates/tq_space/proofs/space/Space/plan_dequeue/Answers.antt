@@ -13,6 +13,7 @@ use Rattle.tq_space.specs.Reading.{named_of, answer_in}
 use Rattle.tq_space.proofs.Taken.{none_of, some_of}
 use Rattle.tq_space.proofs.PlanMoves.{found_contained, among_held}
 use Rattle.tq_space.proofs.Steps.{dequeue_is, dequeue_refusal_is, dequeue_refused, dequeue_planned}
+use Rattle.tq_space.proofs.LogLemmas.{dequeue_durable}
 use Rattle.tq_space.proofs.space.Space.plan_dequeue.Goals as goal
 
 pub returns-in_default-clause-step : goal.returns-in_default-clause-step
@@ -116,3 +117,6 @@ returns-clause-moves c =
       moves = c.in-Ok-plan_of.ensures.moves ∙ ap option_to_list c.removal-item.ensures
           ∙ elim call.peek as (λ b. option_to_list (if b then None else Some (Remove item.message.id)) ≡ (if b then [] else Remove item.message.id ∷ [])) [ true ↦ refl | false ↦ refl ];
     }
+
+pub returns-clause-durable : goal.returns-clause-durable
+returns-clause-durable c = λ taken own next. dequeue_durable c.args.ask.now c.args.self.now.held c.in-Ok-plan_of.plan taken own (returns-clause-moves c) next

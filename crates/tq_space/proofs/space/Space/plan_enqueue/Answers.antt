@@ -16,14 +16,15 @@ use Rattle.tq_space.specs.Reads.{indexed_named, HasDistinctIndices}
 use Rattle.tq_space.specs.Reading.{named_of}
 use Rattle.tq_space.proofs.Taken.{none_of, some_of}
 use Rattle.tq_space.proofs.Steps.{enqueue_refused, refused_badly, refused_room, enqueue_planned}
+use Rattle.tq_space.proofs.LogLemmas.{enqueue_durable}
 use Rattle.tq_space.proofs.space.Space.plan_enqueue.Goals as goal
 
 pub returns-in_default-clause-step : goal.returns-in_default-clause-step
 returns-in_default-clause-step c =
     let held = c.args.self.now.held in
-    let call = c.args.ask.now.call in
-    let clock = c.args.ask.now.clock in
-    let next = c.args.ask.now.next in
+    let call = c.args.ask.call in
+    let clock = c.args.ask.clock in
+    let next = c.args.ask.next in
     let view = ap (λ (s : SpaceState). s.held.queues) c.self.view_is in
     let lasting = subst HasNoExpirations view c.named.ensures.lasting in
     let none : find (indexed_named call.queue) held.queues ≡ None =
@@ -34,9 +35,9 @@ returns-in_default-clause-step c =
 pub returns-in_default-clause-granted : goal.returns-in_default-clause-granted
 returns-in_default-clause-granted c =
     let held = c.args.self.now.held in
-    let call = c.args.ask.now.call in
-    let clock = c.args.ask.now.clock in
-    let next = c.args.ask.now.next in
+    let call = c.args.ask.call in
+    let clock = c.args.ask.clock in
+    let next = c.args.ask.next in
     let view = ap (λ (s : SpaceState). s.held.queues) c.self.view_is in
     let lasting = subst HasNoExpirations view c.named.ensures.lasting in
     let none : find (indexed_named call.queue) held.queues ≡ None =
@@ -48,9 +49,9 @@ returns-in_default-clause-granted c =
 pub returns-in-Some-lack-clause-step : goal.returns-in-Some-lack-clause-step
 returns-in-Some-lack-clause-step c =
     let held = c.args.self.now.held in
-    let call = c.args.ask.now.call in
-    let clock = c.args.ask.now.clock in
-    let next = c.args.ask.now.next in
+    let call = c.args.ask.call in
+    let clock = c.args.ask.clock in
+    let next = c.args.ask.next in
     let view = ap (λ (s : SpaceState). s.held.queues) c.self.view_is in
     let lasting = subst HasNoExpirations view c.named.ensures.lasting in
     let named = some_of named_of (find (indexed_named call.queue) c.self.inside.shelf.queues) c.in-Some.queue (sym c.in-Some.ensures.named) in
@@ -65,9 +66,9 @@ returns-in-Some-lack-clause-step c =
 pub returns-in-Some-lack-clause-granted : goal.returns-in-Some-lack-clause-granted
 returns-in-Some-lack-clause-granted c =
     let held = c.args.self.now.held in
-    let call = c.args.ask.now.call in
-    let clock = c.args.ask.now.clock in
-    let next = c.args.ask.now.next in
+    let call = c.args.ask.call in
+    let clock = c.args.ask.clock in
+    let next = c.args.ask.next in
     let view = ap (λ (s : SpaceState). s.held.queues) c.self.view_is in
     let lasting = subst HasNoExpirations view c.named.ensures.lasting in
     let named = some_of named_of (find (indexed_named call.queue) c.self.inside.shelf.queues) c.in-Some.queue (sym c.in-Some.ensures.named) in
@@ -83,9 +84,9 @@ returns-in-Some-lack-clause-granted c =
 pub returns-clause-step : goal.returns-clause-step
 returns-clause-step c =
     let held = c.args.self.now.held in
-    let call = c.args.ask.now.call in
-    let clock = c.args.ask.now.clock in
-    let next = c.args.ask.now.next in
+    let call = c.args.ask.call in
+    let clock = c.args.ask.clock in
+    let next = c.args.ask.next in
     let view = ap (λ (s : SpaceState). s.held.queues) c.self.view_is in
     let lasting = subst HasNoExpirations view c.named.ensures.lasting in
     let named = some_of named_of (find (indexed_named call.queue) c.self.inside.shelf.queues) c.in-Some.queue (sym c.in-Some.ensures.named) in
@@ -98,17 +99,17 @@ returns-clause-step c =
     let id_is = c.id_of-id.ensures in
     let fits = ap (λ (n : ℕ). first_lacking (message_rooms (space_of held) (space_of held) n)) need_is ∙ sym c.lack.ensures ∙ c.in_default-lack.is in
     enqueue_planned held lasting call clock q found next distinct fits
-    (entry_of c.args.ask.now q.index (quality call.qos q.queue.qos) (next_id (space_of held) next)) refl refl
+    (entry_of c.args.ask q.index (quality call.qos q.queue.qos) (next_id (space_of held) next)) refl refl
     (record { mark = refl; expiration = c.requires.plain.expiration }) refl
-    c.in-Ok-plan_of.plan c.in-Ok-plan_of.ensures.purge
-    (c.in-Ok-plan_of.ensures.moves ∙ ap (λ (e : Entry). Insert e ∷ []) (c.in-Ok.ensures ∙ λ i. entry_of c.args.ask.now (index_is i) (qos_is i) (id_is i)))
-    (c.in-Ok-plan_of.ensures.answer ∙ ap (λ (o : Option MsgId). Some (Enqueued o)) (c.asked_id.ensures ∙ ap (λ (id : MsgId). if call.want_id then Some id else None) id_is))
+    c.in-Ok.plan c.in-Ok.ensures.purge
+    (c.in-Ok.ensures.moves ∙ ap (λ (e : Entry). Insert e ∷ []) (c.new_entry-entry.ensures ∙ λ i. entry_of c.args.ask (index_is i) (qos_is i) (id_is i)))
+    (c.in-Ok.ensures.answer ∙ ap (λ (o : Option MsgId). Some (Enqueued o)) (c.asked_id.ensures ∙ ap (λ (id : MsgId). if call.want_id then Some id else None) id_is))
 
 pub returns-clause-moves : goal.returns-clause-moves
 returns-clause-moves c =
     let held = c.args.self.now.held in
-    let call = c.args.ask.now.call in
-    let next = c.args.ask.now.next in
+    let call = c.args.ask.call in
+    let next = c.args.ask.next in
     let view = ap (λ (s : SpaceState). s.held.queues) c.self.view_is in
     let named = some_of named_of (find (indexed_named call.queue) c.self.inside.shelf.queues) c.in-Some.queue (sym c.in-Some.ensures.named) in
     let q = named.0 in
@@ -116,8 +117,11 @@ returns-clause-moves c =
     let index_is : c.in-Some.queue.index ≡ q.index = ap (λ (n : Named). n.index) (sym named.2) in
     let id_is = c.id_of-id.ensures in
     record {
-      purge = c.in-Ok-plan_of.ensures.purge;
+      purge = c.in-Ok.ensures.purge;
       queue = q;
       found = subst (λ (l : List IndexedQueue). find (indexed_named call.queue) l ≡ Some q) view named.1;
-      moves = c.in-Ok-plan_of.ensures.moves ∙ ap (λ (e : Entry). Insert e ∷ []) (c.in-Ok.ensures ∙ λ i. entry_of c.args.ask.now (index_is i) (qos_is i) (id_is i));
+      moves = c.in-Ok.ensures.moves ∙ ap (λ (e : Entry). Insert e ∷ []) (c.new_entry-entry.ensures ∙ λ i. entry_of c.args.ask (index_is i) (qos_is i) (id_is i));
     }
+
+pub returns-clause-durable : goal.returns-clause-durable
+returns-clause-durable c = λ bare plain. enqueue_durable c.args.ask c.args.self.now.held c.in-Ok.plan c.requires.checked bare plain (returns-clause-moves c) (returns-clause-step c).0.can

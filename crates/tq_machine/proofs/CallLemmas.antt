@@ -1,0 +1,129 @@
+-- What comes of a call on a space, and on the site.
+use Rattle.std.proofs.Common.{◌≡◌, ℕ, ◌+◌, ◌<◌, ◌≤◌, ⊎_elim, length, Bool, true, false, cond, List, set, get_or, refl, sym, ap, subst, ◌∙◌, Option, Some, None, option_map, ltb-false}
+use Rattle.std.specs.Prelude.{MatchOption, IsSome, nat_lt}
+use Rattle.std.proofs.lemmas.Bool.{cases_lt}
+use Rattle.std.proofs.lemmas.List.{get_or_past}
+use Rattle.tq_types.specs.declared.identifiers.Arrival.{Arrival}
+use Rattle.tq_model.specs.declared.answer.Answer.{Answer}
+use Rattle.tq_model.specs.declared.answer.Answer.TheVariants as answers
+use Rattle.tq_model.specs.declared.calls.CallAnswer.{CallAnswer}
+use Rattle.tq_model.specs.declared.calls.EnqueueCall.{EnqueueCall}
+use Rattle.tq_model.specs.declared.calls.DequeueCall.{DequeueCall}
+use Rattle.tq_model.specs.Space.{Space, Queue, Entry, purged, queue_named}
+use Rattle.tq_model.specs.SpaceForm.{log_bytes}
+use Rattle.tq_model.specs.EnqueueStep.{enqueue_step, enqueue_refusal, enqueued, unless_refused}
+use Rattle.tq_model.specs.DequeueStep.{dequeue_step, dequeue_refusal, refusal_at, found_in, taken_from}
+use Rattle.tq_model.specs.Site.{Site, Volume, SpaceOnDevice, has_name, site_spaces, space_named, with_space}
+use Rattle.tq_model.specs.Step.{SpaceOutcome, through_log, unless_refused_by, unless_full, with_outcome, queue_refusal, space_unless, with_queue, log_refusal, next_arrival, on_space, on_space_found, after_call as after_step}
+use Rattle.tq_machine.specs.declared.space_call.SpaceCall.{SpaceCall}
+use Rattle.tq_machine.specs.declared.space_call.Reply.{Reply}
+use Rattle.tq_machine.specs.SpaceCalls.{IsReply, space_name, outcome_of, logged_outcome, after_call}
+use Rattle.tq_machine.specs.Tables.{AreSound, entry_of, entry_changed}
+use Rattle.tq_machine.proofs.Sites.{devices-changed, changed-alike, find-passes, sound-changed}
+
+-- The log
+
+module _ (pages logged : ℕ) (s : Space) (c : SpaceOutcome) where
+  pub log-refused : (r : Answer) → c.refusal ≡ Some r → through_log pages logged s c ≡ record { answer = r; space = c.space; logged = logged; numbers = 0 }
+  log-refused r is = ap (unless_refused_by pages logged s c) is
+
+  pub log-full : (full : Answer) → c.refusal ≡ None → log_refusal pages logged c.size ≡ Some full → through_log pages logged s c ≡ record { answer = full; space = s; logged = logged; numbers = 0 }
+  log-full full none is = ap (unless_refused_by pages logged s c) none ∙ ap (unless_full logged s c) is
+
+  pub log-granted : c.refusal ≡ None → log_refusal pages logged c.size ≡ None
+      → through_log pages logged s c ≡ record { answer = c.answer; space = c.space; logged = logged + (5 + c.size); numbers = c.numbers }
+  log-granted none is = ap (unless_refused_by pages logged s c) none ∙ ap (unless_full logged s c) is
+
+not-chosen : {X : Type 0} (b : Bool) (x : X) → cond b (Some x) None ≡ None → b ≡ false
+not-chosen true x h = cc
+not-chosen false x h = refl
+
+-- a payload fits that the log does not refuse
+pub log-room : (pages logged size : ℕ) → log_refusal pages logged size ≡ None → logged + (size + 6) ≤ log_bytes pages
+log-room pages logged size none = ltb-false (log_bytes pages) (logged + (size + 6)) (not-chosen (nat_lt (log_bytes pages) (logged + (size + 6))) _ none)
+
+-- A space after a refusal
+
+some-answer : (o : Option CallAnswer) → IsSome (option_map answers.Call o) → (r : CallAnswer) × (o ≡ Some r)
+some-answer None h = cc
+some-answer (Some r) h = (r, refl)
+
+pub enqueue-refused : (s : Space) (call : EnqueueCall) (clock : ℕ) (next : Arrival) → IsSome (option_map answers.Call (enqueue_refusal s call clock))
+    → (enqueue_step s call clock next).space ≡ purged clock s
+enqueue-refused s call clock next some =
+    let before : Space = purged clock s in
+    ap (λ (o : Option CallAnswer). (unless_refused o before (enqueued before call next)).space) (some-answer (enqueue_refusal s call clock) some).1
+
+pub dequeue-refused : (s : Space) (call : DequeueCall) (clock : ℕ) → IsSome (option_map answers.Call (dequeue_refusal s call clock)) → (dequeue_step s call clock).space ≡ purged clock s
+dequeue-refused s call clock =
+    let before : Space = purged clock s in
+    left (queue_named call.queue before.queues) (found_in call clock (queue_named call.queue before.queues)) refl
+  where
+    left : (queue : Option Queue) (found : Option Entry) → found ≡ found_in call clock queue → IsSome (option_map answers.Call (refusal_at queue found)) → taken_from (purged clock s) call found ≡ purged clock s
+    left None found is some = ap (taken_from (purged clock s) call) is
+    left (Some queue) None is some = refl
+    left (Some queue) (Some entry) is some = cc
+
+pub queue-granted : (name : List ℕ) (s : Space) → queue_refusal name s ≡ None → space_unless (queue_refusal name s) s (with_queue name s) ≡ with_queue name s
+queue-granted name s none = ap (λ (o : Option Answer). space_unless o s (with_queue name s)) none
+
+-- The site
+
+pub some-of : {X : Type 0} (o : Option X) → IsSome o → (x : X) × (o ≡ Some x)
+some-of None h = cc
+some-of (Some x) h = (x, refl)
+
+-- the place of a space is one of a device
+pub device-within : (ds : List (Option Volume)) (dev entry : ℕ) → IsSome (entry_of (get_or ds dev None) entry) → dev < length ds
+device-within ds dev entry some =
+    ⊎_elim (λ within. within)
+    (λ past. let clash = subst (λ (d : Option Volume). IsSome (entry_of d entry)) (get_or_past ds dev None past) some in cc)
+    (cases_lt dev (length ds))
+
+pub called-devices : (call : SpaceCall) (clock : ℕ) (next : Arrival) (s : Site) (dev entry : ℕ) (p : SpaceOnDevice) → AreSound s.devices → space_named (space_name call) s ≡ Some p
+    → space_named (space_name call) s ≡ entry_of (get_or s.devices dev None) entry
+    → set s.devices dev (option_map (entry_changed entry (after_call call clock next)) (get_or s.devices dev None))
+    ≡ (with_space (space_name call) (with_outcome (logged_outcome call clock next p)) s).devices
+called-devices call clock next s dev entry p sound named there =
+    let is = sym there ∙ named in
+    let change = with_outcome (logged_outcome call clock next p) in
+    ap (set s.devices dev) (changed-alike (after_call call clock next) change s.devices dev entry p is refl)
+    ∙ devices-changed (space_name call) change s.devices dev entry p sound is (find-passes (has_name (space_name call)) (site_spaces s) p named)
+
+-- A call on the space of a place: `name` is the space's, `dev` and `entry` the place, `ds` the devices of the site.
+module _ (call : SpaceCall) (s t : Site) (name : List ℕ) (dev entry : ℕ) (next : Arrival) (is_site : s ≡ t) (is_name : name ≡ space_name call)
+    (there : space_named name t ≡ entry_of (get_or t.devices dev None) entry) (some : IsSome (space_named name t)) (sound : AreSound s.devices)
+    (ds : List (Option Volume)) (are : ds ≡ s.devices) (after : List (Option Volume))
+    (changed : after ≡ set ds dev (option_map (entry_changed entry (after_call call s.clock next)) (get_or ds dev None))) where
+  place_there : space_named (space_name call) s ≡ entry_of (get_or s.devices dev None) entry
+  place_there =
+      (λ i. space_named (sym is_name i) (is_site i)) ∙ there ∙ ap (λ (u : Site). entry_of (get_or u.devices dev None) entry) (sym is_site)
+
+  found : (p : SpaceOnDevice) × (space_named (space_name call) s ≡ Some p)
+  found =
+      let known = some-of (space_named name t) some in
+      (known.0, (λ i. space_named (sym is_name i) (is_site i)) ∙ known.1)
+
+  devices-called : after ≡ (with_space (space_name call) (with_outcome (logged_outcome call s.clock next found.0)) s).devices
+  devices-called =
+      changed ∙ ap (λ (l : List (Option Volume)). set l dev (option_map (entry_changed entry (after_call call s.clock next)) (get_or l dev None))) are
+      ∙ called-devices call s.clock next s dev entry found.0 sound found.1 place_there
+
+  pub sound-called : AreSound after
+  sound-called =
+      subst AreSound (sym devices-called) (sound-changed (space_name call) (with_outcome (logged_outcome call s.clock next found.0)) (λ p. refl) s.devices sound)
+
+  pub site-called : (reply : Reply) → MatchOption (entry_of (get_or ds dev None) entry) ⊥ (λ p. IsReply (logged_outcome call s.clock next p) reply) → next ≡ next_arrival t
+      → record s { next = s.next + reply.numbers; devices = after } ≡ (on_space (space_name call) (outcome_of call) t).site
+  site-called reply replied is_next =
+      let name = space_name call in
+      let is : entry_of (get_or ds dev None) entry ≡ Some found.0 = ap (λ (l : List (Option Volume)). entry_of (get_or l dev None) entry) are ∙ sym place_there ∙ found.1 in
+      let reply_is : IsReply (logged_outcome call s.clock next found.0) reply =
+      subst (λ (o : Option SpaceOnDevice). MatchOption o ⊥ (λ p. IsReply (logged_outcome call s.clock next p) reply)) is replied in
+      let same : record s { next = s.next + reply.numbers; devices = after } ≡ (after_step name (logged_outcome call s.clock next found.0) s).site =
+      λ i. record s { next = s.next + reply_is.numbers i; devices = devices-called i } in
+      let arrival : next ≡ next_arrival s = is_next ∙ ap next_arrival (sym is_site) in
+      same
+      ∙ ap (λ (n : Arrival). (on_space_found name (λ (clock : ℕ) (a : Arrival). outcome_of call clock n) s (Some found.0)).site) arrival
+      ∙ ap (λ (o : Option SpaceOnDevice). (on_space_found name (outcome_of call) s o).site) (sym found.1)
+      ∙ ap (λ (u : Site). (on_space name (outcome_of call) u).site) is_site

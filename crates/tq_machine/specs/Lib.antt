@@ -1,0 +1,5 @@
+pub mod SpaceCalls
+pub mod Fields
+pub mod Tables
+pub mod Entries
+pub mod MachineViews

@@ -1,0 +1,506 @@
+//! The site, and its step for each request.
+
+ghost use Rattle.std.specs.Prelude.{◌≡◌, ◌<◌, ◌≤◌, nat_lt, None, Some, IsSome, IfOk, IfNone, OnOk, OnErr, MatchOption, length, map, option_copied, option_map, slice_index_or, slice_set};
+ghost use Rattle.std.specs.List.{find, flat_map};
+ghost use Rattle.tq_model.specs.Site.{blank_site, durable, durable_space, has_name, on_spaces, capacity_of, present, space_named, spaces_on, volume_of};
+ghost use Rattle.tq_model.specs.Step.{boot, call_step, create_device, create_queue, create_space, creation_refusal, dequeue, device_step, enqueue, field_refused, list_device, new_volume, next_arrival, on_space, on_volume_refusal, ready, site_number, space_made, space_refusal, space_step, step, with_new_device};
+ghost use Rattle.tq_machine.specs.SpaceCalls.{IsReply, after_call, logged_outcome, outcome_of, space_name};
+ghost use Rattle.tq_machine.specs.Fields.{HasFieldsWithin};
+ghost use Rattle.tq_machine.specs.Tables.{device_spaces, entry_changed, entry_of};
+
+use crate::device::CreatedDevice;
+use crate::space_call::{Reply, SpaceCall};
+use std::alloc::{AllocError, Global};
+use std::marker::Model;
+use tq_model::{
+    Answer, CallRequest, Capacity, Creation, DequeueWords, DeviceAnswer, DeviceRequest,
+    EnqueueWords, Field, Identity, Listing, QueueCreation, Readiness, Request, SpaceAnswer,
+    SpaceCreation, SpaceRequest,
+};
+use tq_types::{Arrival, Name};
+
+const LEAST_CLUSTERS: u64 = 5;
+
+const MOST_CLUSTERS: u64 = 8192;
+
+const LAST_SITE: u64 = 4294967295;
+
+const MOST_PAGES: u64 = 262016;
+
+const MOST_MEMORY: u64 = 16777216;
+
+const LONGEST_BODY: usize = 65536;
+
+/// The serial queue machine as a slow plain program. Clauses see its site.
+#[derive(Drop)]
+pub struct Machine {
+    alloc: Global,
+    identity: Option<Identity>,
+    next: u32,
+    clock: u64,
+    devices: Vec<Option<CreatedDevice>>,
+}
+
+impl Model for Machine {
+    ghost use Rattle.tq_model.specs.Site.{Site};
+
+    ghost Value = { Site };
+
+    ghost use Rattle.tq_machine.specs.Tables.{AreSound};
+
+    ghost view = { λ m. record { identity = m.identity; next = m.next; clock = m.clock; devices = m.devices.items } };
+
+    ghost invariant = { λ m. AreSound m.devices.items };
+}
+
+/// Where a space stands: its device, and its entry in the device's table.
+#[derive(Clone, Copy)]
+struct SpacePlace {
+    dev: usize,
+    entry: usize,
+}
+
+impl Machine {
+    /// That many blank devices, 1 to 8, before line 0.
+    pub fn new(alloc: Global, devices: u8) -> Result<Machine, AllocError>
+        requires some { 1 ≤ devices }
+        requires most { devices ≤ 8 }
+        ensures { IfOk result (λ m. m ≡ blank_site devices) }
+    {
+        Ok(Machine {
+            alloc,
+            identity: None,
+            next: 0,
+            clock: 0,
+            devices: blank_devices(alloc, devices)?,
+        })
+    }
+
+    /// One step: the answer, and the site after it. After an `Err` the site is as it was.
+    pub fn step(&mut self, request: &Request) -> Result<Answer, AllocError>
+        requires { self.old.next < 4294967295 }
+        ensures answer { IfOk result (λ a. a ≡ (step self.old request.now).answer) }
+        ensures site { OnOk result (self.new ≡ (step self.old request.now).site) }
+        ensures unchanged { OnErr result (self.new ≡ self.old) }
+    {
+        match request {
+            Request::Nothing => Ok(Answer::Done),
+            Request::Boot => Ok(self.boot()),
+            Request::Bad(column) => Ok(Answer::Syntax(*column)),
+            Request::TooLong => Ok(Answer::TooLong),
+            Request::Device(request) => self.device_step(request),
+            Request::Space(request) => self.space_step(request),
+            Request::Call(request) => self.call_step(request),
+        }
+    }
+
+    /// A crash and a boot: the next epoch, or damage where the epoch cannot be raised.
+    fn boot(&mut self) -> Answer
+        ensures answer { result ≡ (boot self.old).answer }
+        ensures site { self.new ≡ (boot self.old).site }
+    {
+        self.crash();
+        if let Some(identity) = self.identity {
+            if identity.epoch == u32::MAX {
+                return Answer::Damaged(0);
+            }
+            self.identity = Some(Identity {
+                site: identity.site,
+                epoch: identity.epoch + 1,
+            });
+        }
+        self.ready()
+    }
+
+    /// Leaves what is there after a crash.
+    fn crash(&mut self)
+        ensures { self.new ≡ durable self.old }
+    {
+        self.next = 0;
+        self.clock = 0;
+        crash_all(&mut self.devices);
+    }
+
+    /// What a boot finds.
+    fn ready(&self) -> Answer
+        ensures { result ≡ ready self.now }
+    {
+        Answer::Ready(Readiness {
+            identity: self.identity,
+            spaces: count_spaces(&self.devices),
+            in_doubt: 0,
+        })
+    }
+
+    /// One step of what is asked of a device.
+    fn device_step(&mut self, request: &DeviceRequest) -> Result<Answer, AllocError>
+        ensures answer { IfOk result (λ a. a ≡ (device_step self.old request.now).answer) }
+        ensures site { OnOk result (self.new ≡ (device_step self.old request.now).site) }
+        ensures unchanged { OnErr result (self.new ≡ self.old) }
+    {
+        match request {
+            DeviceRequest::Create(creation) => self.create_device(creation),
+            DeviceRequest::List(dev) => Ok(Answer::Device(self.list_device(*dev)?)),
+        }
+    }
+
+    /// Makes a device, or says the first reason not to.
+    fn create_device(&mut self, creation: &Creation) -> Result<Answer, AllocError>
+        ensures answer { IfOk result (λ a. a ≡ (create_device creation.now self.old).answer) }
+        ensures site { OnOk result (self.new ≡ (create_device creation.now self.old).site) }
+        ensures unchanged { OnErr result (self.new ≡ self.old) }
+    {
+        match self.creation_refusal(creation) {
+            Some(refusal) => Ok(Answer::Device(refusal)),
+            None => Ok(Answer::Device(DeviceAnswer::Created(self.make_device(creation)?))),
+        }
+    }
+
+    /// The first reason not to make a device.
+    fn creation_refusal(&self, creation: &Creation) -> Option<DeviceAnswer>
+        ensures { result ≡ creation_refusal creation.now self.now }
+    {
+        if !self.has_device(creation.dev) {
+            return Some(DeviceAnswer::NoDevice);
+        }
+        if self.volume(creation.dev).is_some() {
+            return Some(DeviceAnswer::Exists);
+        }
+        if creation.dev != 0 && self.identity.is_none() {
+            return Some(DeviceAnswer::NoSite);
+        }
+        if creation.clusters < LEAST_CLUSTERS || creation.clusters > MOST_CLUSTERS {
+            return Some(DeviceAnswer::Range(Field::Clusters));
+        }
+        let site = creation.site.unwrap_or(1);
+        if site < 1 || site > LAST_SITE {
+            return Some(DeviceAnswer::Range(Field::Site));
+        }
+        None
+    }
+
+    /// Makes a device anew; with device 0 the site begins.
+    fn make_device(&mut self, creation: &Creation) -> Result<Capacity, AllocError>
+        requires { creation_refusal creation.now self.old ≡ None }
+        ensures capacity { IfOk result (λ c. c ≡ capacity_of (new_volume creation.now.clusters)) }
+        ensures site { OnOk result (self.new ≡ with_new_device creation.now self.old) }
+        ensures unchanged { OnErr result (self.new ≡ self.old) }
+    {
+        let device = CreatedDevice::new(self.alloc, creation.clusters as u32)?;
+        let capacity = device.capacity();
+        self.devices[usize::from(creation.dev)] = Some(device);
+        if creation.dev == 0 {
+            self.identity = Some(Identity {
+                site: creation.site.unwrap_or(1) as u32,
+                epoch: 1,
+            });
+            self.next = 0;
+        }
+        Ok(capacity)
+    }
+
+    /// What a device answers when it is listed.
+    fn list_device(&self, dev: u8) -> Result<DeviceAnswer, AllocError>
+        ensures { IfOk result (λ a. a ≡ list_device dev self.now) }
+    {
+        if !self.has_device(dev) {
+            return Ok(DeviceAnswer::NoDevice);
+        }
+        match self.volume(dev) {
+            None => Ok(DeviceAnswer::NotCreated),
+            Some(device) => Ok(DeviceAnswer::Listed(Listing {
+                capacity: device.capacity(),
+                spaces: device.lines(self.alloc)?,
+            })),
+        }
+    }
+
+    /// Whether there is a word for that device.
+    fn has_device(&self, dev: u8) -> bool
+        ensures { result ≡ nat_lt dev (length self.now.devices) }
+    {
+        usize::from(dev) < self.devices.len()
+    }
+
+    /// The device with that number, or None where it is blank or there is none.
+    fn volume(&self, dev: u8) -> Option<&CreatedDevice>
+        ensures { option_copied result ≡ volume_of self.now dev }
+    {
+        match self.devices.get(usize::from(dev)) {
+            Some(Some(device)) => Some(device),
+            _ => None,
+        }
+    }
+
+    /// One step of what is asked of spaces and their queues.
+    fn space_step(&mut self, request: &SpaceRequest) -> Result<Answer, AllocError>
+        requires { self.old.next < 4294967295 }
+        ensures answer { IfOk result (λ a. a ≡ (space_step self.old request.now).answer) }
+        ensures site { OnOk result (self.new ≡ (space_step self.old request.now).site) }
+        ensures unchanged { OnErr result (self.new ≡ self.old) }
+    {
+        match request {
+            SpaceRequest::Create(creation) => self.create_space(creation),
+            SpaceRequest::CreateQueue(creation) => self.create_queue(creation),
+        }
+    }
+
+    fn create_queue(&mut self, creation: &QueueCreation) -> Result<Answer, AllocError>
+        requires { self.old.next < 4294967295 }
+        ensures answer { IfOk result (λ a. a ≡ (create_queue creation.now self.old).answer) }
+        ensures site { OnOk result (self.new ≡ (create_queue creation.now self.old).site) }
+        ensures unchanged { OnErr result (self.new ≡ self.old) }
+    {
+        self.call(&SpaceCall::Queue(creation))
+    }
+
+    /// Makes a space, or says the first reason not to.
+    fn create_space(&mut self, creation: &SpaceCreation) -> Result<Answer, AllocError>
+        ensures answer { IfOk result (λ a. a ≡ (create_space creation.now self.old).answer) }
+        ensures site { OnOk result (self.new ≡ (create_space creation.now self.old).site) }
+        ensures unchanged { OnErr result (self.new ≡ self.old) }
+    {
+        match self.space_refusal(creation) {
+            Some(refusal) => Ok(refusal),
+            None => self.make_space(creation),
+        }
+    }
+
+    /// The first reason not to make a space.
+    fn space_refusal(&self, creation: &SpaceCreation) -> Option<Answer>
+        ensures { result ≡ space_refusal creation.now self.now }
+    {
+        if !self.has_device(creation.dev) {
+            return Some(Answer::Device(DeviceAnswer::NoDevice));
+        }
+        match self.volume(creation.dev) {
+            None => Some(Answer::Device(DeviceAnswer::NotCreated)),
+            Some(device) => self.refusal_on(device, creation),
+        }
+    }
+
+    /// The first reason not to make a space on a device that is there.
+    fn refusal_on(&self, device: &CreatedDevice, creation: &SpaceCreation) -> Option<Answer>
+        ensures { result ≡ on_volume_refusal creation.now self.now (Some device.now) }
+    {
+        if self.place_of(&creation.name).is_some() {
+            return Some(Answer::Space(SpaceAnswer::Taken));
+        }
+        match field_refused(creation) {
+            Some(field) => Some(Answer::Device(DeviceAnswer::Range(field))),
+            None => device.pages_refusal(creation),
+        }
+    }
+
+    /// Makes a space.
+    fn make_space(&mut self, creation: &SpaceCreation) -> Result<Answer, AllocError>
+        requires { space_refusal creation.now self.old ≡ None }
+        ensures answer { IfOk result (λ a. a ≡ (space_made creation.now self.old (volume_of self.old creation.now.dev)).answer) }
+        ensures site { OnOk result (self.new ≡ (space_made creation.now self.old (volume_of self.old creation.now.dev)).site) }
+        ensures unchanged { OnErr result (self.new ≡ self.old) }
+    {
+        let site = self.site_number();
+        match &mut self.devices[usize::from(creation.dev)] {
+            Some(device) => device.make_space(self.alloc, creation, site),
+            None => unreachable!(),
+        }
+    }
+
+    fn site_number(&self) -> u32
+        ensures { result ≡ site_number self.now }
+    {
+        match self.identity {
+            Some(identity) => identity.site,
+            None => 0,
+        }
+    }
+
+    /// One step of what is asked of a queue.
+    fn call_step(&mut self, request: &CallRequest) -> Result<Answer, AllocError>
+        requires { self.old.next < 4294967295 }
+        ensures answer { IfOk result (λ a. a ≡ (call_step self.old request.now).answer) }
+        ensures site { OnOk result (self.new ≡ (call_step self.old request.now).site) }
+        ensures unchanged { OnErr result (self.new ≡ self.old) }
+    {
+        match request {
+            CallRequest::Enqueue(_, words) => self.enqueue(words),
+            CallRequest::Dequeue(_, words) => self.dequeue(words),
+        }
+    }
+
+    fn enqueue(&mut self, words: &EnqueueWords) -> Result<Answer, AllocError>
+        requires { self.old.next < 4294967295 }
+        ensures answer { IfOk result (λ a. a ≡ (enqueue words.now self.old).answer) }
+        ensures site { OnOk result (self.new ≡ (enqueue words.now self.old).site) }
+        ensures unchanged { OnErr result (self.new ≡ self.old) }
+    {
+        let size = words.body.len();
+        if size > LONGEST_BODY {
+            return Ok(Answer::Invalid(size as u64));
+        }
+        self.call(&SpaceCall::Enqueue(words))
+    }
+
+    fn dequeue(&mut self, words: &DequeueWords) -> Result<Answer, AllocError>
+        requires { self.old.next < 4294967295 }
+        ensures answer { IfOk result (λ a. a ≡ (dequeue words.now self.old).answer) }
+        ensures site { OnOk result (self.new ≡ (dequeue words.now self.old).site) }
+        ensures unchanged { OnErr result (self.new ≡ self.old) }
+    {
+        self.call(&SpaceCall::Dequeue(words))
+    }
+
+    /// Does a call on a space that goes by its name.
+    fn call(&mut self, call: &SpaceCall) -> Result<Answer, AllocError>
+        requires { self.old.next < 4294967295 }
+        ensures answer { IfOk result (λ a. a ≡ (on_space (space_name call.now) (outcome_of call.now) self.old).answer) }
+        ensures site { OnOk result (self.new ≡ (on_space (space_name call.now) (outcome_of call.now) self.old).site) }
+        ensures unchanged { OnErr result (self.new ≡ self.old) }
+    {
+        let Some(place) = self.place_of(call.space()) else {
+            return Ok(Answer::NoEntry);
+        };
+        let next = self.next_arrival();
+        let reply = call_at(&mut self.devices, place, call, self.clock, next)?;
+        self.next += reply.numbers;
+        Ok(reply.answer)
+    }
+
+    /// The place of the space of that name.
+    fn place_of(&self, name: &Name) -> Option<SpacePlace>
+        ensures { MatchOption result (space_named name.now self.now ≡ None)
+            (λ place. (space_named name.now self.now ≡ entry_of (slice_index_or self.now.devices place.dev None) place.entry)
+            × IsSome (space_named name.now self.now)) }
+    {
+        place_in(&self.devices, name)
+    }
+
+    /// The arrival of the next message.
+    fn next_arrival(&self) -> Arrival
+        ensures { result ≡ next_arrival self.now }
+    {
+        let epoch = match self.identity {
+            Some(identity) => identity.epoch,
+            None => 0,
+        };
+        Arrival {
+            epoch,
+            number: self.next,
+        }
+    }
+}
+
+/// The first field that is out of its limit.
+fn field_refused(creation: &SpaceCreation) -> Option<Field>
+    ensures field { result ≡ field_refused creation.now }
+    ensures within { IfNone result (HasFieldsWithin creation.now) }
+{
+    if creation.pages < 1 || creation.pages > MOST_PAGES {
+        return Some(Field::Pages);
+    }
+    if creation.queues < 1 || creation.queues > 256 {
+        return Some(Field::Queues);
+    }
+    if creation.transactions < 1 || creation.transactions > 64 {
+        return Some(Field::Transactions);
+    }
+    if creation.messages < 1 || creation.messages > 8192 {
+        return Some(Field::Messages);
+    }
+    if creation.memory > MOST_MEMORY {
+        return Some(Field::Memory);
+    }
+    None
+}
+
+fn blank_devices(alloc: Global, devices: u8) -> Result<Vec<Option<CreatedDevice>>, AllocError>
+    ensures { IfOk result (λ v. v.items ≡ (blank_site devices).devices) }
+{
+    let mut blank = Vec::new(alloc);
+    for _at in 0..devices {
+        blank.push(None)?;
+    }
+    Ok(blank)
+}
+
+fn crash_all(devices: &mut [Option<CreatedDevice>])
+    ensures { devices.new ≡ map (option_map (on_spaces durable_space)) devices.old }
+{
+    for at in 0..devices.len() {
+        crash_device(&mut devices[at]);
+    }
+}
+
+fn crash_device(device: &mut Option<CreatedDevice>)
+    ensures { device.new ≡ option_map (on_spaces durable_space) device.old }
+{
+    if let Some(device) = device {
+        device.crash();
+    }
+}
+
+fn count_spaces(devices: &[Option<CreatedDevice>]) -> u32
+    requires { length devices.now ≤ 8 }
+    ensures { result ≡ length (flat_map spaces_on (present devices.now)) }
+{
+    let mut count = 0;
+    for device in devices {
+        count += count_in(device);
+    }
+    count
+}
+
+fn count_in(device: &Option<CreatedDevice>) -> u32
+    ensures count { result ≡ length (device_spaces device.now) }
+    ensures most { result ≤ 16 }
+{
+    match device {
+        Some(device) => device.space_count() as u32,
+        None => 0,
+    }
+}
+
+/// The place of the first space of that name.
+fn place_in(devices: &[Option<CreatedDevice>], name: &Name) -> Option<SpacePlace>
+    ensures { MatchOption result (find (has_name name.now) (flat_map spaces_on (present devices.now)) ≡ None)
+        (λ place. (find (has_name name.now) (flat_map spaces_on (present devices.now)) ≡ entry_of
+        (slice_index_or devices.now place.dev None) place.entry) × IsSome (find (has_name name.now) (flat_map spaces_on (present devices.now)))) }
+{
+    for (dev, device) in devices.iter().enumerate() {
+        if let Some(entry) = entry_in(device, name) {
+            return Some(SpacePlace { dev, entry });
+        }
+    }
+    None
+}
+
+fn entry_in(device: &Option<CreatedDevice>, name: &Name) -> Option<usize>
+    ensures { MatchOption result (find (has_name name.now) (device_spaces device.now) ≡ None)
+        (λ e. (find (has_name name.now) (device_spaces device.now) ≡ entry_of device.now e) × IsSome (entry_of device.now e)) }
+{
+    match device {
+        Some(device) => device.entry_named(name),
+        None => None,
+    }
+}
+
+/// Does a call on the space of a place. After an `Err` the devices are as they were.
+fn call_at(
+    devices: &mut [Option<CreatedDevice>],
+    place: SpacePlace,
+    call: &SpaceCall,
+    clock: u64,
+    next: Arrival,
+) -> Result<Reply, AllocError>
+    requires { IsSome (entry_of (slice_index_or devices.old place.dev None) place.entry) }
+    ensures reply { IfOk result (λ reply. MatchOption (entry_of (slice_index_or devices.old place.dev None) place.entry) ⊥
+        (λ p. IsReply (logged_outcome call.now clock next p) reply)) }
+    ensures devices { OnOk result (devices.new ≡ slice_set devices.old place.dev
+        (option_map (entry_changed place.entry (after_call call.now clock next)) (slice_index_or devices.old place.dev None))) }
+    ensures unchanged { OnErr result (devices.new ≡ devices.old) }
+{
+    match &mut devices[place.dev] {
+        Some(device) => device.call(place.entry, call, clock, next),
+        None => unreachable!(),
+    }
+}

@@ -1,6 +1,0 @@
-use Rattle.std.proofs.Common.{◌≡◌, ◌≤◌, take, length}
-use Rattle.tq_model.specs.Site.{present}
-use Rattle.tq_model.proofs.machine.device.count_spaces.Given as goal
-
-abbrev pub invariant-loop-entry : goal.invariant-loop-entry
-invariant-loop-entry l = (l.count ≡ length (present (take l.entry-index l.entries))) × (l.count ≤ l.entry-index)

@@ -1,5 +1,0 @@
-use Rattle.std.proofs.Common.{length}
-use Rattle.tq_run.proofs.tests.faults.check_bytes.Given as goal
-
-abbrev pub decreases-loop-row : goal.decreases-loop-row
-decreases-loop-row g l = length l.rest
