@@ -8,7 +8,7 @@ use Rattle.tq_device.specs.declared.content.NamedSpace.{NamedSpace}
 use Rattle.tq_device.specs.Content.{IsWithin}
 use Rattle.tq_device.specs.Parts.{is_header, is_base, is_entry, is_table, is_journal, is_device}
 use Rattle.tq_device.proofs.EntryLemmas.{entry_fits}
-use Rattle.tq_device.proofs.Standing.{next_most}
+use Rattle.tq_device.proofs.ContentLemmas.{next_most}
 
 table_limited : (clusters size : ℕ) (t : TableStart) → is_table clusters size t ≡ true → IsWithin (named_in t)
 table_limited clusters size t is =

@@ -5,7 +5,7 @@ use Rattle.tq_model.specs.DeviceForm.{chosen, table_a, table_b, journal_a, journ
 use Rattle.tq_device.specs.declared.content.DeviceContent.{DeviceContent}
 use Rattle.tq_device.specs.Content.{HasContent, IsLonger}
 use Rattle.tq_device.proofs.Areas.{chosen_most}
-use Rattle.tq_device.proofs.Standing.{stands_kept}
+use Rattle.tq_device.proofs.ContentLemmas.{stands_kept}
 
 pub longer_steps : IsSteps IsLonger
 longer_steps = record {

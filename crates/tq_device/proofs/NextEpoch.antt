@@ -11,8 +11,8 @@ use Rattle.tq_device.specs.Parts.{HasJournal}
 use Rattle.tq_device.specs.Raised.{IsFilled}
 use Rattle.tq_device.proofs.Areas.{chosen_most, other_least, other_most, other_apart, chosen_either, turned}
 use Rattle.tq_device.proofs.Parts.{AreSame}
-use Rattle.tq_device.proofs.Standing.{stands_parts, selected, written_apart}
-use Rattle.tq_device.proofs.Making.{journal_made}
+use Rattle.tq_device.proofs.ContentLemmas.{stands_parts, selected, written_apart}
+use Rattle.tq_device.proofs.CreationLemmas.{journal_made}
 
 pub journal_steps : IsSteps IsSameButJournal
 journal_steps = record {

@@ -18,7 +18,7 @@ use Rattle.tq_device.specs.Entered.{IsTableFilled}
 use Rattle.tq_device.proofs.Areas.{chosen_least, other_least, other_most, other_apart, chosen_either, turned}
 use Rattle.tq_device.proofs.Parts.{AreSame, same_runs, same_numbers, kept_number, run_stands}
 use Rattle.tq_device.proofs.EntryLemmas.{fits_entry}
-use Rattle.tq_device.proofs.Standing.{base_holds, next_least, named_short, table_moved, stands_parts, selected, written_apart}
+use Rattle.tq_device.proofs.ContentLemmas.{base_holds, next_least, named_short, table_moved, stands_parts, selected, written_apart}
 
 pub table_steps : IsSteps IsSameButTable
 table_steps = record {

@@ -7,8 +7,8 @@ ghost use Rattle.tq_device.specs.Made.{IsShort, IsPaged, IsMadeTo, IsLaidOut, ma
 
 use crate::DeviceContent;
 use crate::bytes::{base_start, header_start, padded};
-use crate::layout::HEADER_BYTES;
 use tq_host::{Failed, Host};
+use tq_model::HEADER_BYTES;
 
 /// Makes a blank device one of this site, from 1, with 5 to 8,192 clusters, its epoch 1. A stop
 /// inside leaves it blank or made, and so does a call of the outside that failed, which answers

@@ -11,7 +11,9 @@ ghost use Rattle.tq_device.specs.Judged.{IsJudged, HasSelectors, space_named};
 use crate::bytes::{number, short};
 use crate::layout::OPEN_GATE;
 use crate::{DeviceContent, Found, NamedSpace};
-use tq_model::name_in;
+use tq_model::{
+    CLUSTER_BYTES, HEADER_BYTES, LAST_SPACE, LEAST_CLUSTERS, MOST_CLUSTERS, MOST_PAGES, name_in,
+};
 use tq_types::Name;
 
 /// Whether the first page is that of a device 0.
@@ -22,7 +24,7 @@ fn is_header(page: &[u8]) -> bool
     &page[..8] == b"TQDEV001".as_slice()
         && page[8] == 0
         && 1 <= number(page, 12)
-        && (5 <= number(page, 16) && number(page, 16) <= 8192)
+        && (LEAST_CLUSTERS <= number(page, 16) && number(page, 16) <= MOST_CLUSTERS)
 }
 
 /// Whether no entry of a device table but the first one is used.
@@ -43,7 +45,7 @@ fn is_headed(table: &[u8]) -> bool
     requires { length table.now ≡ 2596 }
     ensures { result ≡ parts.is_headed (table_start 0 table.now) }
 {
-    &table[..4] == b"TQTB".as_slice() && (1 <= number(table, 4) && number(table, 4) <= 268_435_455)
+    &table[..4] == b"TQTB".as_slice() && (1 <= number(table, 4) && number(table, 4) <= LAST_SPACE)
 }
 
 /// Whether a device table's base is one, of whose entries at most the first is used.
@@ -85,7 +87,7 @@ fn is_numbered(table: &[u8]) -> bool
     ensures { result ≡ parts.is_numbered (number_at 4 4 table.now) (first_entry 0 table.now) }
 {
     (1 <= number(table, 164) && number(table, 164) < number(table, 4))
-        && (1 <= number(table, 168) && number(table, 168) <= 262_016)
+        && (1 <= number(table, 168) && number(table, 168) <= MOST_PAGES)
 }
 
 /// Whether the clusters of a device table's first entry are as many as its pages take, and lie
@@ -96,7 +98,7 @@ fn has_clusters(table: &[u8], clusters: u32, size: u64) -> bool
 {
     let count = u64::from(short(table, 2594));
     count == (u64::from(number(table, 168)) + 31) / 32
-        && (4 + count <= u64::from(clusters) && 131_072 + 32_768 * count <= size)
+        && (4 + count <= u64::from(clusters) && HEADER_BYTES + CLUSTER_BYTES * count <= size)
 }
 
 /// Whether a device table's first entry has one extent, which begins behind the header's clusters.

@@ -1,9 +1,6 @@
 ghost use Rattle.std.specs.Prelude.{◌≡◌};
 ghost use Rattle.tq_model.specs.DeviceForm as form;
 
-/// The length from which on a device is not blank.
-pub(crate) const HEADER_BYTES: u64 = 131_072;
-
 pub(crate) const TABLE_A: u64 = 1024;
 
 pub(crate) const TABLE_B: u64 = 41_984;

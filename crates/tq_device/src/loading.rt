@@ -6,8 +6,9 @@ ghost use Rattle.tq_device.specs.Content.{IsFoundOn, IsFoundWithin, IsAny, IsSam
 use crate::Found;
 use crate::bytes::zeros;
 use crate::judging::judge;
-use crate::layout::{HEADER_BYTES, JOURNAL_A, JOURNAL_B, TABLE_A, TABLE_B, chosen};
+use crate::layout::{JOURNAL_A, JOURNAL_B, TABLE_A, TABLE_B, chosen};
 use tq_host::{Failed, Host};
+use tq_model::HEADER_BYTES;
 
 /// What the bytes of the device are found to be; every content is judged, and nothing is written.
 /// `Failed` where a call of the outside failed.

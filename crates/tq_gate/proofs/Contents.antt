@@ -15,7 +15,7 @@ use Rattle.tq_gate.specs.Log.{IsOpen, IsSameButIn}
 use Rattle.tq_gate.specs.declared.fault.GateError.{GateError}
 use Rattle.tq_gate.specs.declared.fault.GateError.TheVariants.{Damaged, Device, NoMemory}
 use Rattle.tq_gate.specs.Loading.{IsDamaged, IsRefused, IsRefusedLog}
-use Rattle.tq_gate.proofs.Stretches.{length-bytes_from, get_or-bytes_from, bytes_from-same}
+use Rattle.tq_gate.proofs.RangeLemmas.{length-bytes_from, get_or-bytes_from, bytes_from-same}
 use Rattle.tq_gate.proofs.Readings.{log_read, log_reading_is, damaged_none, records_within, records_same}
 
 -- what stands in an image that has this content

@@ -1,8 +1,8 @@
-pub mod Stretches
+pub mod RangeLemmas
 pub mod FrameLemmas
 pub mod Readings
 pub mod Contents
-pub mod Staging
-pub mod Quieting
-pub mod Opening
-pub mod Elsewhere
+pub mod StageLemmas
+pub mod ReadOnlyLemmas
+pub mod OpenGateLemmas
+pub mod OutsideLemmas

@@ -12,7 +12,7 @@ use Rattle.tq_field.specs.Places.{run_at, number_at}
 use Rattle.tq_field.specs.Digits.{number_of}
 use Rattle.tq_gate.specs.Reading.{IsRecord, AreRecords, IsDamagedAt}
 use Rattle.tq_field.specs.GatedLog.{reading_from, log_reading, end_of}
-use Rattle.tq_gate.proofs.Stretches.{run_at-same}
+use Rattle.tq_gate.proofs.RangeLemmas.{run_at-same}
 
 -- one step of the reading
 pub reading_shut : (most p : ℕ) (log : List ℕ) → get_or log p 0 ≢ 79 → reading_from most p log ≡ Some []

@@ -1,9 +1,10 @@
 pub mod Steps
 pub mod Bytes
 pub mod Within
-pub mod Running
-pub mod Resting
+pub mod AllDevices
+pub mod RunLemmas
+pub mod QuietLemmas
 pub mod Causes
 mod Images
-mod Replaying
+mod ReplayLemmas
 mod Views

@@ -19,7 +19,7 @@ use Rattle.tq_host.specs.Memory.{IsLoaded}
 use Rattle.tq_host.specs.Lawful.{counts_now, events_long}
 use Rattle.tq_host.proofs.Bytes.{torn_none, pulled_none}
 use Rattle.tq_host.proofs.Images.{is_overwritten, is_resized, write_image, resize_image, settled_image}
-use Rattle.tq_host.proofs.Replaying.{after, since, keeps_later, put_own, put_other}
+use Rattle.tq_host.proofs.ReplayLemmas.{after, since, keeps_later, put_own, put_other}
 
 -- the state of an account
 abbrev now : Account → State

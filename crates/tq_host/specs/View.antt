@@ -37,9 +37,13 @@ pub record Streams : Type 0 where
   pub input_faults : ℕ
   pub output_faults : ℕ
 
+-- one image per device
+abbrev pub Images : Type 0
+Images = ℕ → List ℕ
+
 -- What a stop leaves: one image per device, each chosen by itself, and the output of that moment.
 pub record Picture : Type 0 where
-  pub images : ℕ → List ℕ
+  pub images : Images
   pub output : List ℕ
 
 pub record View : Type 1 where
@@ -60,7 +64,7 @@ abbrev pub stamp_now : View → Stamp
 stamp_now v = record { clock = v.clock; faults = v.faults; reads = v.reads; attached = v.attached }
 
 -- the images of a picture are of this moment
-abbrev pub AreNow : View → (ℕ → List ℕ) → Type 0
+abbrev pub AreNow : View → Images → Type 0
 AreNow v images = (d : ℕ) → v.may_leave d (images d)
 
 -- a picture of this moment
@@ -71,6 +75,10 @@ pub record IsNow (v : View) (p : Picture) : Type 0 where
 -- nothing is pending on a device: its one image is what it reads
 abbrev pub IsSettled : ℕ → View → Type 0
 IsSettled dev v = (c : List ℕ) → v.may_leave dev c → c ≡ v.reads dev
+
+-- nothing is pending on the first so many devices
+abbrev pub AreSettled : ℕ → View → Type 0
+AreSettled devices v = (d : ℕ) → d < devices → IsSettled d v
 
 -- What holds of a host at each moment.
 pub record IsLawful (tells : Told) (v : View) : Type 0 where

@@ -1,6 +1,6 @@
--- What a call on one device does, seen at each moment of it.
+-- What a call on one device does, and one on all devices, seen at each moment of it.
 use Rattle.std.specs.Prelude.{◌≡◌, ◌≢◌, ◌⊎◌, ◌≤◌, ℕ, List}
-use Rattle.tq_host.specs.View.{View, Picture}
+use Rattle.tq_host.specs.View.{View, Picture, Images, AreNow}
 
 -- a call on one device leaves the rest of the outside, and the paths that the devices are attached by
 pub record KeepsRest (dev : ℕ) (old new : View) : Type 0 where
@@ -36,3 +36,22 @@ pub record Within (dev : ℕ) (S : List ℕ → List ℕ → Type 0) (Q : List �
 pub record Ran (P : Picture → Type 0) (start now : View) : Type 0 where
   pub later : start.clock ≤ now.clock
   pub pictures : (t : ℕ) (p : Picture) → t ≤ start.clock → now.left_since t p → start.left_since t p ⊎ P p
+
+-- a call on devices leaves the streams, and the paths that the devices are attached by
+pub record KeepsBeside (old new : View) : Type 0 where
+  pub later : old.clock ≤ new.clock
+  pub streams : new.streams ≡ old.streams
+  pub attached : new.attached ≡ old.attached
+
+-- a picture whose images, of all devices at once, have P
+pub record IsOfAll (P : Images → Type 0) (start : View) (p : Picture) : Type 0 where
+  pub images : P p.images
+  pub output : p.output ≡ start.streams.output
+
+-- From start to now: in each picture of it, and now, the images of all devices at once have P. The input and the output are
+-- as they were.
+pub record WithinAll (P : Images → Type 0) (start now : View) : Type 0 where
+  pub later : start.clock ≤ now.clock
+  pub images : (images : Images) → AreNow now images → P images
+  pub streams : now.streams ≡ start.streams
+  pub pictures : (t : ℕ) (p : Picture) → t ≤ start.clock → now.left_since t p → start.left_since t p ⊎ IsOfAll P start p

@@ -3,18 +3,17 @@ use Rattle.std.proofs.Common.{◌≡◌, ℕ, ◌+◌, ◌<◌, ◌≤◌, ⊎_e
 use Rattle.std.specs.Prelude.{MatchOption, IsSome, nat_lt}
 use Rattle.std.proofs.lemmas.Bool.{cases_lt}
 use Rattle.std.proofs.lemmas.List.{get_or_past}
-use Rattle.tq_types.specs.declared.identifiers.Arrival.{Arrival}
 use Rattle.tq_model.specs.declared.answer.Answer.{Answer}
 use Rattle.tq_model.specs.declared.answer.Answer.TheVariants as answers
 use Rattle.tq_model.specs.declared.calls.CallAnswer.{CallAnswer}
-use Rattle.tq_model.specs.declared.calls.EnqueueCall.{EnqueueCall}
-use Rattle.tq_model.specs.declared.calls.DequeueCall.{DequeueCall}
+use Rattle.tq_model.specs.declared.calls.EnqueueAsk.{EnqueueAsk}
+use Rattle.tq_model.specs.declared.calls.DequeueAsk.{DequeueAsk}
 use Rattle.tq_model.specs.Space.{Space, Queue, Entry, purged, queue_named}
 use Rattle.tq_model.specs.SpaceForm.{log_bytes}
 use Rattle.tq_model.specs.EnqueueStep.{enqueue_step, enqueue_refusal, enqueued, unless_refused}
 use Rattle.tq_model.specs.DequeueStep.{dequeue_step, dequeue_refusal, refusal_at, found_in, taken_from}
 use Rattle.tq_model.specs.Site.{Site, Volume, SpaceOnDevice, has_name, site_spaces, space_named, with_space}
-use Rattle.tq_model.specs.Step.{SpaceOutcome, through_log, unless_refused_by, unless_full, with_outcome, queue_refusal, space_unless, with_queue, log_refusal, next_arrival, on_space, on_space_found, after_call as after_step}
+use Rattle.tq_model.specs.Step.{SpaceOutcome, through_log, unless_refused_by, unless_full, with_outcome, queue_refusal, space_unless, with_queue, log_refusal, on_space, on_space_found, after_call as after_step}
 use Rattle.tq_machine.specs.declared.space_call.SpaceCall.{SpaceCall}
 use Rattle.tq_machine.specs.declared.space_call.Reply.{Reply}
 use Rattle.tq_machine.specs.SpaceCalls.{IsReply, space_name, outcome_of, logged_outcome, after_call}
@@ -48,19 +47,19 @@ some-answer : (o : Option CallAnswer) → IsSome (option_map answers.Call o) →
 some-answer None h = cc
 some-answer (Some r) h = (r, refl)
 
-pub enqueue-refused : (s : Space) (call : EnqueueCall) (clock : ℕ) (next : Arrival) → IsSome (option_map answers.Call (enqueue_refusal s call clock))
-    → (enqueue_step s call clock next).space ≡ purged clock s
-enqueue-refused s call clock next some =
-    let before : Space = purged clock s in
-    ap (λ (o : Option CallAnswer). (unless_refused o before (enqueued before call next)).space) (some-answer (enqueue_refusal s call clock) some).1
+pub enqueue-refused : (s : Space) (ask : EnqueueAsk) → IsSome (option_map answers.Call (enqueue_refusal s ask)) → (enqueue_step s ask).space ≡ purged ask.clock s
+enqueue-refused s ask some =
+    let before : Space = purged ask.clock s in
+    ap (λ (o : Option CallAnswer). (unless_refused o before (enqueued before ask.call ask.next)).space) (some-answer (enqueue_refusal s ask) some).1
 
-pub dequeue-refused : (s : Space) (call : DequeueCall) (clock : ℕ) → IsSome (option_map answers.Call (dequeue_refusal s call clock)) → (dequeue_step s call clock).space ≡ purged clock s
-dequeue-refused s call clock =
-    let before : Space = purged clock s in
-    left (queue_named call.queue before.queues) (found_in call clock (queue_named call.queue before.queues)) refl
+pub dequeue-refused : (s : Space) (ask : DequeueAsk) → IsSome (option_map answers.Call (dequeue_refusal s ask)) → (dequeue_step s ask).space ≡ purged ask.clock s
+dequeue-refused s ask =
+    let before : Space = purged ask.clock s in
+    left (queue_named ask.call.queue before.queues) (found_in ask.call ask.clock (queue_named ask.call.queue before.queues)) refl
   where
-    left : (queue : Option Queue) (found : Option Entry) → found ≡ found_in call clock queue → IsSome (option_map answers.Call (refusal_at queue found)) → taken_from (purged clock s) call found ≡ purged clock s
-    left None found is some = ap (taken_from (purged clock s) call) is
+    left : (queue : Option Queue) (found : Option Entry) → found ≡ found_in ask.call ask.clock queue → IsSome (option_map answers.Call (refusal_at queue found))
+        → taken_from (purged ask.clock s) ask.call found ≡ purged ask.clock s
+    left None found is some = ap (taken_from (purged ask.clock s) ask.call) is
     left (Some queue) None is some = refl
     left (Some queue) (Some entry) is some = cc
 
@@ -73,28 +72,34 @@ pub some-of : {X : Type 0} (o : Option X) → IsSome o → (x : X) × (o ≡ Som
 some-of None h = cc
 some-of (Some x) h = (x, refl)
 
+-- a place with something in it is one of the list
+pub some-within : {X : Type 0} (xs : List (Option X)) (at : ℕ) → IsSome (get_or xs at None) → at < length xs
+some-within xs at some =
+    ⊎_elim (λ within. within) (λ past. let clash = subst IsSome (get_or_past xs at None past) some in cc) (cases_lt at (length xs))
+
 -- the place of a space is one of a device
 pub device-within : (ds : List (Option Volume)) (dev entry : ℕ) → IsSome (entry_of (get_or ds dev None) entry) → dev < length ds
 device-within ds dev entry some =
-    ⊎_elim (λ within. within)
+    ⊎_elim
+    (λ within. within)
     (λ past. let clash = subst (λ (d : Option Volume). IsSome (entry_of d entry)) (get_or_past ds dev None past) some in cc)
     (cases_lt dev (length ds))
 
-pub called-devices : (call : SpaceCall) (clock : ℕ) (next : Arrival) (s : Site) (dev entry : ℕ) (p : SpaceOnDevice) → AreSound s.devices → space_named (space_name call) s ≡ Some p
+pub called-devices : (call : SpaceCall) (s : Site) (dev entry : ℕ) (p : SpaceOnDevice) → AreSound s.devices → space_named (space_name call) s ≡ Some p
     → space_named (space_name call) s ≡ entry_of (get_or s.devices dev None) entry
-    → set s.devices dev (option_map (entry_changed entry (after_call call clock next)) (get_or s.devices dev None))
-    ≡ (with_space (space_name call) (with_outcome (logged_outcome call clock next p)) s).devices
-called-devices call clock next s dev entry p sound named there =
+    → set s.devices dev (option_map (entry_changed entry (after_call call)) (get_or s.devices dev None))
+    ≡ (with_space (space_name call) (with_outcome (logged_outcome call p)) s).devices
+called-devices call s dev entry p sound named there =
     let is = sym there ∙ named in
-    let change = with_outcome (logged_outcome call clock next p) in
-    ap (set s.devices dev) (changed-alike (after_call call clock next) change s.devices dev entry p is refl)
+    let change = with_outcome (logged_outcome call p) in
+    ap (set s.devices dev) (changed-alike (after_call call) change s.devices dev entry p is refl)
     ∙ devices-changed (space_name call) change s.devices dev entry p sound is (find-passes (has_name (space_name call)) (site_spaces s) p named)
 
 -- A call on the space of a place: `name` is the space's, `dev` and `entry` the place, `ds` the devices of the site.
-module _ (call : SpaceCall) (s t : Site) (name : List ℕ) (dev entry : ℕ) (next : Arrival) (is_site : s ≡ t) (is_name : name ≡ space_name call)
+module _ (call : SpaceCall) (s t : Site) (name : List ℕ) (dev entry : ℕ) (is_site : s ≡ t) (is_name : name ≡ space_name call)
     (there : space_named name t ≡ entry_of (get_or t.devices dev None) entry) (some : IsSome (space_named name t)) (sound : AreSound s.devices)
     (ds : List (Option Volume)) (are : ds ≡ s.devices) (after : List (Option Volume))
-    (changed : after ≡ set ds dev (option_map (entry_changed entry (after_call call s.clock next)) (get_or ds dev None))) where
+    (changed : after ≡ set ds dev (option_map (entry_changed entry (after_call call)) (get_or ds dev None))) where
   place_there : space_named (space_name call) s ≡ entry_of (get_or s.devices dev None) entry
   place_there =
       (λ i. space_named (sym is_name i) (is_site i)) ∙ there ∙ ap (λ (u : Site). entry_of (get_or u.devices dev None) entry) (sym is_site)
@@ -104,26 +109,24 @@ module _ (call : SpaceCall) (s t : Site) (name : List ℕ) (dev entry : ℕ) (ne
       let known = some-of (space_named name t) some in
       (known.0, (λ i. space_named (sym is_name i) (is_site i)) ∙ known.1)
 
-  devices-called : after ≡ (with_space (space_name call) (with_outcome (logged_outcome call s.clock next found.0)) s).devices
+  devices-called : after ≡ (with_space (space_name call) (with_outcome (logged_outcome call found.0)) s).devices
   devices-called =
-      changed ∙ ap (λ (l : List (Option Volume)). set l dev (option_map (entry_changed entry (after_call call s.clock next)) (get_or l dev None))) are
-      ∙ called-devices call s.clock next s dev entry found.0 sound found.1 place_there
+      changed ∙ ap (λ (l : List (Option Volume)). set l dev (option_map (entry_changed entry (after_call call)) (get_or l dev None))) are
+      ∙ called-devices call s dev entry found.0 sound found.1 place_there
 
   pub sound-called : AreSound after
   sound-called =
-      subst AreSound (sym devices-called) (sound-changed (space_name call) (with_outcome (logged_outcome call s.clock next found.0)) (λ p. refl) s.devices sound)
+      subst AreSound (sym devices-called) (sound-changed (space_name call) (with_outcome (logged_outcome call found.0)) (λ p. refl) s.devices sound)
 
-  pub site-called : (reply : Reply) → MatchOption (entry_of (get_or ds dev None) entry) ⊥ (λ p. IsReply (logged_outcome call s.clock next p) reply) → next ≡ next_arrival t
+  pub site-called : (reply : Reply) → MatchOption (entry_of (get_or ds dev None) entry) ⊥ (λ p. IsReply (logged_outcome call p) reply)
       → record s { next = s.next + reply.numbers; devices = after } ≡ (on_space (space_name call) (outcome_of call) t).site
-  site-called reply replied is_next =
+  site-called reply replied =
       let name = space_name call in
       let is : entry_of (get_or ds dev None) entry ≡ Some found.0 = ap (λ (l : List (Option Volume)). entry_of (get_or l dev None) entry) are ∙ sym place_there ∙ found.1 in
-      let reply_is : IsReply (logged_outcome call s.clock next found.0) reply =
-      subst (λ (o : Option SpaceOnDevice). MatchOption o ⊥ (λ p. IsReply (logged_outcome call s.clock next p) reply)) is replied in
-      let same : record s { next = s.next + reply.numbers; devices = after } ≡ (after_step name (logged_outcome call s.clock next found.0) s).site =
+      let reply_is : IsReply (logged_outcome call found.0) reply =
+      subst (λ (o : Option SpaceOnDevice). MatchOption o ⊥ (λ p. IsReply (logged_outcome call p) reply)) is replied in
+      let same : record s { next = s.next + reply.numbers; devices = after } ≡ (after_step name (logged_outcome call found.0) s).site =
       λ i. record s { next = s.next + reply_is.numbers i; devices = devices-called i } in
-      let arrival : next ≡ next_arrival s = is_next ∙ ap next_arrival (sym is_site) in
       same
-      ∙ ap (λ (n : Arrival). (on_space_found name (λ (clock : ℕ) (a : Arrival). outcome_of call clock n) s (Some found.0)).site) arrival
       ∙ ap (λ (o : Option SpaceOnDevice). (on_space_found name (outcome_of call) s o).site) (sym found.1)
       ∙ ap (λ (u : Site). (on_space name (outcome_of call) u).site) is_site

@@ -8,35 +8,35 @@ use Rattle.tq_types.specs.declared.identifiers.MsgId.{MsgId}
 use Rattle.tq_types.specs.declared.messages.Entry.{Entry as HeldEntry}
 use Rattle.tq_machine.specs.Entries.{free_entry}
 use Rattle.tq_model.specs.Space.{Entry, has_id, dropped, placed, stands_before, is_expired, outlives, freed}
-use Rattle.tq_model.specs.Moves.{entry_view}
+use Rattle.tq_model.specs.Moves.{entry_view, session_owners}
 use Rattle.tq_model.proofs.Maps.{filter-map, map-map}
 use Rattle.tq_model.proofs.Places.{position_or_len-map, position-found, position-none, map-insert, map-remove}
 
 -- the expired entries are dropped
 pub purged_items : (clock : ℕ) (es : List HeldEntry)
-    → map entry_view (filter (λ e. not (is_expired clock (entry_view e))) es) ≡ filter (λ item. not (is_expired clock item)) (map entry_view es)
-purged_items clock es = sym (filter-map entry_view (λ item. not (is_expired clock item)) es)
+    → map (entry_view session_owners) (filter (λ e. not (is_expired clock (entry_view session_owners e))) es) ≡ filter (λ item. not (is_expired clock item)) (map (entry_view session_owners) es)
+purged_items clock es = sym (filter-map (entry_view session_owners) (λ item. not (is_expired clock item)) es)
 
 -- what a crash leaves
-pub crashed_items : (es : List HeldEntry) → map entry_view (map free_entry (filter (λ e. outlives (entry_view e)) es)) ≡ map freed (filter outlives (map entry_view es))
+pub crashed_items : (es : List HeldEntry) → map (entry_view session_owners) (map free_entry (filter (λ e. outlives (entry_view session_owners e)) es)) ≡ map freed (filter outlives (map (entry_view session_owners) es))
 crashed_items es =
-    let kept = filter (λ e. outlives (entry_view e)) es in
-    map-map free_entry entry_view kept ∙ sym (map-map entry_view freed kept) ∙ ap (map freed) (sym (filter-map entry_view outlives es))
+    let kept = filter (λ e. outlives (entry_view session_owners e)) es in
+    map-map free_entry (entry_view session_owners) kept ∙ sym (map-map (entry_view session_owners) freed kept) ∙ ap (map freed) (sym (filter-map (entry_view session_owners) outlives es))
 
 pub remove-past : {X : Type 0} (xs : List X) (at : ℕ) → length xs ≤ at → remove xs at ≡ xs
 remove-past xs at past = (λ i. take_all at xs past i ++ drop_all (suc at) xs (omega arith) i) ∙ append-nil xs
 
 -- the entry of an identifier goes
-pub dropped_found : (id : MsgId) (es : List HeldEntry) (at : ℕ) → position (λ e. has_id id (entry_view e)) es ≡ Some at
-    → map entry_view (remove es at) ≡ dropped id (map entry_view es)
+pub dropped_found : (id : MsgId) (es : List HeldEntry) (at : ℕ) → position (λ e. has_id id (entry_view session_owners e)) es ≡ Some at
+    → map (entry_view session_owners) (remove es at) ≡ dropped id (map (entry_view session_owners) es)
 dropped_found id es at found =
-    let spot : position_or_len (has_id id) (map entry_view es) ≡ at = position_or_len-map entry_view (has_id id) es ∙ (position-found (λ (e : HeldEntry). has_id id (entry_view e)) es at found).0 in
-    map-remove entry_view es at ∙ ap (remove (map entry_view es)) (sym spot)
+    let spot : position_or_len (has_id id) (map (entry_view session_owners) es) ≡ at = position_or_len-map (entry_view session_owners) (has_id id) es ∙ (position-found (λ (e : HeldEntry). has_id id (entry_view session_owners e)) es at found).0 in
+    map-remove (entry_view session_owners) es at ∙ ap (remove (map (entry_view session_owners) es)) (sym spot)
 
-pub dropped_none : (id : MsgId) (es : List HeldEntry) → position (λ e. has_id id (entry_view e)) es ≡ None → map entry_view es ≡ dropped id (map entry_view es)
+pub dropped_none : (id : MsgId) (es : List HeldEntry) → position (λ e. has_id id (entry_view session_owners e)) es ≡ None → map (entry_view session_owners) es ≡ dropped id (map (entry_view session_owners) es)
 dropped_none id es none =
-    let past = position-none (λ (e : HeldEntry). has_id id (entry_view e)) es none in
-    sym (remove-past (map entry_view es) (position_or_len (has_id id) (map entry_view es)) (omega (arith, position_or_len-map entry_view (has_id id) es, length-map es entry_view)))
+    let past = position-none (λ (e : HeldEntry). has_id id (entry_view session_owners e)) es none in
+    sym (remove-past (map (entry_view session_owners) es) (position_or_len (has_id id) (map (entry_view session_owners) es)) (omega (arith, position_or_len-map (entry_view session_owners) (has_id id) es, length-map es (entry_view session_owners))))
 
 -- The place among all is the place among those that are kept.
 insert-further : {X : Type 0} (x y : X) (xs : List X) (n : ℕ) → insert (y ∷ xs) (1 + n) x ≡ y ∷ insert xs n x
@@ -61,13 +61,13 @@ filter-placed {X} keep before x kept (y ∷ ys) =
     ] refl
 
 -- an entry that is not expired comes in
-pub placed_items : (clock : ℕ) (order : OrderValue) (entry : HeldEntry) → is_expired clock (entry_view entry) ≡ false → (es : List HeldEntry) (place : ℕ)
-    → place ≡ position_or_len (λ other. not (is_expired clock (entry_view other)) && stands_before order (entry_view entry) (entry_view other)) es
-    → filter (λ item. not (is_expired clock item)) (map entry_view (insert es place entry)) ≡ placed order (entry_view entry) (filter (λ item. not (is_expired clock item)) (map entry_view es))
+pub placed_items : (clock : ℕ) (order : OrderValue) (entry : HeldEntry) → is_expired clock (entry_view session_owners entry) ≡ false → (es : List HeldEntry) (place : ℕ)
+    → place ≡ position_or_len (λ other. not (is_expired clock (entry_view session_owners other)) && stands_before order (entry_view session_owners entry) (entry_view session_owners other)) es
+    → filter (λ item. not (is_expired clock item)) (map (entry_view session_owners) (insert es place entry)) ≡ placed order (entry_view session_owners entry) (filter (λ item. not (is_expired clock item)) (map (entry_view session_owners) es))
 placed_items clock order entry lasts es place is_place =
     let keep : Entry → Bool = λ item. not (is_expired clock item) in
-    let before : Entry → Bool = stands_before order (entry_view entry) in
-    let spot : place ≡ position_or_len (λ item. keep item && before item) (map entry_view es) = is_place ∙ sym (position_or_len-map entry_view (λ item. keep item && before item) es) in
-    ap (filter keep) (map-insert entry_view es place entry)
-    ∙ ap (λ n. filter keep (insert (map entry_view es) n (entry_view entry))) spot
-    ∙ filter-placed keep before (entry_view entry) (ap not lasts) (map entry_view es)
+    let before : Entry → Bool = stands_before order (entry_view session_owners entry) in
+    let spot : place ≡ position_or_len (λ item. keep item && before item) (map (entry_view session_owners) es) = is_place ∙ sym (position_or_len-map (entry_view session_owners) (λ item. keep item && before item) es) in
+    ap (filter keep) (map-insert (entry_view session_owners) es place entry)
+    ∙ ap (λ n. filter keep (insert (map (entry_view session_owners) es) n (entry_view session_owners entry))) spot
+    ∙ filter-placed keep before (entry_view session_owners entry) (ap not lasts) (map (entry_view session_owners) es)

@@ -14,7 +14,8 @@ use Rattle.tq_model.specs.Space.{Space, Queue, Entry, is_named, queue_named, is_
 use Rattle.tq_model.specs.Room.{pages_at, first_lacking, message_rooms}
 use Rattle.tq_model.specs.EnqueueStep.{CallOutcome, next_id, entry_to_come, enqueue_step, enqueue_refusal, enqueue_refusal_at, unless_refused, with_message}
 use Rattle.tq_model.specs.DequeueStep.{delivered, dequeue_step, dequeue_refusal, dequeue_answer, found_in, refusal_at, taken_from}
-use Rattle.tq_model.specs.Step.{enqueue_call, dequeue_call}
+use Rattle.tq_model.specs.CallChecks.{enqueue_call, dequeue_call}
+use Rattle.tq_machine.specs.SpaceCalls.{enqueue_asked, dequeue_asked}
 use Rattle.tq_model.proofs.Maps.{find-map, find-filter}
 use Rattle.tq_model.proofs.Places.{position_or_len-map, position-found, change_first-at, find-found}
 use Rattle.tq_machine.proofs.Limits.{within-added}
@@ -39,21 +40,21 @@ named-purged clock name queues = find-map (purged_queue clock) (is_named name) q
 
 -- Enqueue
 
-module _ (s : Space) (w : EnqueueWords) (clock : ℕ) where
-  pub enqueue-unnamed : queue_named w.queue s.queues ≡ None → enqueue_refusal s (enqueue_call w clock) clock ≡ Some BadQueue
+module _ (s : Space) (w : EnqueueWords) (clock : ℕ) (next : Arrival) where
+  pub enqueue-unnamed : queue_named w.queue s.queues ≡ None → enqueue_refusal s (enqueue_asked w clock next) ≡ Some BadQueue
   enqueue-unnamed none = ap (enqueue_refusal_at s (purged clock s) (enqueue_call w clock)) (named-purged clock w.queue s.queues ∙ ap (option_map (purged_queue clock)) none)
 
   pub enqueue-named : (queue : Queue) → queue_named w.queue s.queues ≡ Some queue
-      → enqueue_refusal s (enqueue_call w clock) clock ≡ option_map NoSpace (first_lacking (message_rooms s (purged clock s) (pages_at queue.qos (length w.body))))
+      → enqueue_refusal s (enqueue_asked w clock next) ≡ option_map NoSpace (first_lacking (message_rooms s (purged clock s) (pages_at queue.qos (length w.body))))
   enqueue-named queue found = ap (enqueue_refusal_at s (purged clock s) (enqueue_call w clock)) (named-purged clock w.queue s.queues ∙ ap (option_map (purged_queue clock)) found)
 
-  pub enqueue-granted : (queue : Queue) (next : Arrival) → queue_named w.queue s.queues ≡ Some queue → enqueue_refusal s (enqueue_call w clock) clock ≡ None
-      → enqueue_step s (enqueue_call w clock) clock next
+  pub enqueue-granted : (queue : Queue) → queue_named w.queue s.queues ≡ Some queue → enqueue_refusal s (enqueue_asked w clock next) ≡ None
+      → enqueue_step s (enqueue_asked w clock next)
       ≡ record {
         space = record s { queues = with_entry_in w.queue (entry_to_come s queue (enqueue_call w clock) next) (map (purged_queue clock) s.queues) };
         answer = Enqueued (if wants_id w.flags then Some (next_id s next) else None);
       }
-  enqueue-granted queue next found granted =
+  enqueue-granted queue found granted =
       let call = enqueue_call w clock in
       let before : Space = purged clock s in
       ap (λ (o : Option CallAnswer). unless_refused o before (record { space = with_message before call next (queue_named w.queue before.queues); answer = Enqueued (if wants_id w.flags then Some (next_id s next) else None) })) granted
@@ -76,18 +77,18 @@ added-queues clock name item queues at d queue found same =
 -- Dequeue
 
 module _ (s : Space) (w : DequeueWords) (clock : ℕ) where
-  pub dequeue-unnamed : queue_named w.queue s.queues ≡ None → dequeue_refusal s (dequeue_call w) clock ≡ Some BadQueue
+  pub dequeue-unnamed : queue_named w.queue s.queues ≡ None → dequeue_refusal s (dequeue_asked w clock) ≡ Some BadQueue
   dequeue-unnamed none =
       ap (λ (o : Option Queue). refusal_at o (found_in (dequeue_call w) clock o)) (named-purged clock w.queue s.queues ∙ ap (option_map (purged_queue clock)) none)
 
   pub dequeue-named : (queue : Queue) → queue_named w.queue s.queues ≡ Some queue
-      → dequeue_refusal s (dequeue_call w) clock ≡ refusal_at (Some (purged_queue clock queue)) (find (is_eligible clock) queue.items)
+      → dequeue_refusal s (dequeue_asked w clock) ≡ refusal_at (Some (purged_queue clock queue)) (find (is_eligible clock) queue.items)
   dequeue-named queue found =
       ap (λ (o : Option Queue). refusal_at o (found_in (dequeue_call w) clock o)) (named-purged clock w.queue s.queues ∙ ap (option_map (purged_queue clock)) found)
       ∙ ap (refusal_at (Some (purged_queue clock queue))) (eligible-purged clock queue.items)
 
   pub dequeue-granted : (queue : Queue) (item : Entry) → queue_named w.queue s.queues ≡ Some queue → find (is_eligible clock) queue.items ≡ Some item
-      → dequeue_step s (dequeue_call w) clock ≡ record { space = space_without item.message.id (purged clock s); answer = delivered (dequeue_call w) item }
+      → dequeue_step s (dequeue_asked w clock) ≡ record { space = space_without item.message.id (purged clock s); answer = delivered (dequeue_call w) item }
   dequeue-granted queue item found first =
       let call = dequeue_call w in
       let before : Space = purged clock s in
@@ -102,26 +103,26 @@ none-mapped f (Some x) h = cc
 
 -- a granted enqueue, by the place of its queue
 module _ (s : Space) (w : EnqueueWords) (clock at : ℕ) (d : Queue) (next : Arrival) (found : position (is_named w.queue) s.queues ≡ Some at)
-    (granted : enqueue_refusal s (enqueue_call w clock) clock ≡ None) where
+    (granted : enqueue_refusal s (enqueue_asked w clock next) ≡ None) where
   abbrev pub entry-added : Entry
   entry-added = entry_to_come s (get_or s.queues at d) (enqueue_call w clock) next
 
-  pub space-added : record s { queues = with_entry_in w.queue entry-added (map (purged_queue clock) s.queues) } ≡ (enqueue_step s (enqueue_call w clock) clock next).space
+  pub space-added : record s { queues = with_entry_in w.queue entry-added (map (purged_queue clock) s.queues) } ≡ (enqueue_step s (enqueue_asked w clock next)).space
   space-added =
-      ap (λ (o : CallOutcome). o.space) (sym (enqueue-granted s w clock (get_or s.queues at d) next (find-found (is_named w.queue) s.queues at d found) granted))
+      ap (λ (o : CallOutcome). o.space) (sym (enqueue-granted s w clock next (get_or s.queues at d) (find-found (is_named w.queue) s.queues at d found) granted))
 
   pub within-limits-added : IsWithinLimits s → IsWithinLimits (record s { queues = with_entry_in w.queue entry-added (map (purged_queue clock) s.queues) })
   within-limits-added within =
       let queue = get_or s.queues at d in
       let need = pages_at queue.qos (length w.body) in
-      let named = enqueue-named s w clock queue (find-found (is_named w.queue) s.queues at d found) in
+      let named = enqueue-named s w clock next queue (find-found (is_named w.queue) s.queues at d found) in
       within-added w.queue entry-added clock need s within refl (none-mapped NoSpace (first_lacking (message_rooms s (purged clock s) need)) (sym named ∙ granted))
 
 -- what a granted dequeue finds
-pub dequeue-queue : (s : Space) (w : DequeueWords) (clock : ℕ) → dequeue_refusal s (dequeue_call w) clock ≡ None → queue_named w.queue s.queues ≡ None → ⊥
+pub dequeue-queue : (s : Space) (w : DequeueWords) (clock : ℕ) → dequeue_refusal s (dequeue_asked w clock) ≡ None → queue_named w.queue s.queues ≡ None → ⊥
 dequeue-queue s w clock granted none = let clash = sym (dequeue-unnamed s w clock none) ∙ granted in cc
 
-pub dequeue-entry : (s : Space) (w : DequeueWords) (clock : ℕ) (queue : Queue) → dequeue_refusal s (dequeue_call w) clock ≡ None → queue_named w.queue s.queues ≡ Some queue
+pub dequeue-entry : (s : Space) (w : DequeueWords) (clock : ℕ) (queue : Queue) → dequeue_refusal s (dequeue_asked w clock) ≡ None → queue_named w.queue s.queues ≡ Some queue
     → find (is_eligible clock) queue.items ≡ None → ⊥
 dequeue-entry s w clock queue granted found none =
     let clash = sym (dequeue-named s w clock queue found ∙ ap (refusal_at (Some (purged_queue clock queue))) none) ∙ granted in cc

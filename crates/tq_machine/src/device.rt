@@ -14,12 +14,10 @@ use crate::space_call::{Reply, SpaceCall};
 use std::alloc::{AllocError, Global};
 use std::marker::Model;
 use tq_model::{
-    Answer, Capacity, ClusterRoom, NewSpace, SpaceAnswer, SpaceCreation, SpaceLines, SpacePages,
-    overhead_pages,
+    Answer, Capacity, ClusterRoom, LAST_SPACE, NewSpace, SpaceAnswer, SpaceCreation, SpaceLines,
+    SpacePages, overhead_pages,
 };
 use tq_types::{Arrival, Name};
-
-const LAST_SPACE: u32 = 268435455;
 
 const TABLE_ENTRIES: usize = 16;
 
@@ -171,21 +169,15 @@ impl CreatedDevice {
     }
 
     /// Does a call on the space of an entry. After an `Err` the device is as it was.
-    pub(crate) fn call(
-        &mut self,
-        entry: usize,
-        call: &SpaceCall,
-        clock: u64,
-        next: Arrival,
-    ) -> Result<Reply, AllocError>
+    pub(crate) fn call(&mut self, entry: usize, call: &SpaceCall) -> Result<Reply, AllocError>
         requires { IsSome (slice_index_or self.old.entries entry None) }
         ensures reply { IfOk result (λ reply. MatchOption (slice_index_or self.old.entries entry None) ⊥
-            (λ p. IsReply (logged_outcome call.now clock next p) reply)) }
-        ensures device { OnOk result (self.new ≡ entry_changed entry (after_call call.now clock next) self.old) }
+            (λ p. IsReply (logged_outcome call.now p) reply)) }
+        ensures device { OnOk result (self.new ≡ entry_changed entry (after_call call.now) self.old) }
         ensures unchanged { OnErr result (self.new ≡ self.old) }
     {
         match &mut self.entries[entry] {
-            Some(placed) => placed.call(call, clock, next),
+            Some(placed) => placed.call(call),
             None => unreachable!(),
         }
     }

@@ -2,7 +2,7 @@
 
 ghost use Rattle.std.specs.Prelude.{◌≡◌};
 ghost use Rattle.tq_model.specs.Space.{same_id, is_free, is_adding, is_persistent, is_past, is_eligible, is_expired, outlives, has_id};
-ghost use Rattle.tq_model.specs.Moves.{mark_view, entry_view};
+ghost use Rattle.tq_model.specs.Moves.{mark_view, entry_view, session_owners};
 
 use tq_types::{Entry, Mark, MsgId, Qos};
 
@@ -15,13 +15,13 @@ pub(crate) fn is_same_id(a: &MsgId, b: &MsgId) -> bool
 
 /// Whether an entry has that identifier.
 pub(crate) fn has_id(entry: &Entry, id: &MsgId) -> bool
-    ensures { result ≡ has_id id.now (entry_view entry.now) }
+    ensures { result ≡ has_id id.now (entry_view session_owners entry.now) }
 {
     is_same_id(&entry.message.id, id)
 }
 
 fn is_free(mark: Mark) -> bool
-    ensures { result ≡ is_free (mark_view mark) }
+    ensures { result ≡ is_free (mark_view session_owners mark) }
 {
     match mark {
         Mark::Free => true,
@@ -30,7 +30,7 @@ fn is_free(mark: Mark) -> bool
 }
 
 fn is_adding(mark: Mark) -> bool
-    ensures { result ≡ is_adding (mark_view mark) }
+    ensures { result ≡ is_adding (mark_view session_owners mark) }
 {
     match mark {
         Mark::Adding(_) => true,
@@ -58,7 +58,7 @@ fn is_past(clock: u64, at: Option<u64>) -> bool
 
 /// Whether an entry is free, available and not expired.
 pub(crate) fn is_eligible(entry: &Entry, clock: u64) -> bool
-    ensures { result ≡ is_eligible clock (entry_view entry.now) }
+    ensures { result ≡ is_eligible clock (entry_view session_owners entry.now) }
 {
     is_free(entry.mark)
         && entry.message.available <= clock
@@ -67,14 +67,14 @@ pub(crate) fn is_eligible(entry: &Entry, clock: u64) -> bool
 
 /// Whether an entry is free and past its expiration.
 pub(crate) fn is_expired(entry: &Entry, clock: u64) -> bool
-    ensures { result ≡ is_expired clock (entry_view entry.now) }
+    ensures { result ≡ is_expired clock (entry_view session_owners entry.now) }
 {
     is_free(entry.mark) && is_past(clock, entry.message.expiration)
 }
 
 /// Whether an entry is there after a crash.
 pub(crate) fn outlives(entry: &Entry) -> bool
-    ensures { result ≡ outlives (entry_view entry.now) }
+    ensures { result ≡ outlives (entry_view session_owners entry.now) }
 {
     is_persistent(entry.message.qos) && !is_adding(entry.mark)
 }

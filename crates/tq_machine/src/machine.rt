@@ -9,27 +9,18 @@ ghost use Rattle.tq_machine.specs.Fields.{HasFieldsWithin};
 ghost use Rattle.tq_machine.specs.Tables.{device_spaces, entry_changed, entry_of};
 
 use crate::device::CreatedDevice;
-use crate::space_call::{Reply, SpaceCall};
+use crate::space_call::{DequeueByWords, EnqueueByWords, Reply, SpaceCall};
 use std::alloc::{AllocError, Global};
 use std::marker::Model;
 use tq_model::{
     Answer, CallRequest, Capacity, Creation, DequeueWords, DeviceAnswer, DeviceRequest,
-    EnqueueWords, Field, Identity, Listing, QueueCreation, Readiness, Request, SpaceAnswer,
-    SpaceCreation, SpaceRequest,
+    EnqueueWords, Field, Identity, LEAST_CLUSTERS, LONGEST_BODY, Listing, MOST_CLUSTERS,
+    MOST_MEMORY, MOST_MESSAGES, MOST_PAGES, MOST_QUEUES, MOST_TRANSACTIONS, QueueCreation,
+    Readiness, Request, SpaceAnswer, SpaceCreation, SpaceRequest,
 };
 use tq_types::{Arrival, Name};
 
-const LEAST_CLUSTERS: u64 = 5;
-
-const MOST_CLUSTERS: u64 = 8192;
-
 const LAST_SITE: u64 = 4294967295;
-
-const MOST_PAGES: u64 = 262016;
-
-const MOST_MEMORY: u64 = 16777216;
-
-const LONGEST_BODY: usize = 65536;
 
 /// The serial queue machine as a slow plain program. Clauses see its site.
 #[derive(Drop)]
@@ -169,7 +160,9 @@ impl Machine {
         if creation.dev != 0 && self.identity.is_none() {
             return Some(DeviceAnswer::NoSite);
         }
-        if creation.clusters < LEAST_CLUSTERS || creation.clusters > MOST_CLUSTERS {
+        if creation.clusters < u64::from(LEAST_CLUSTERS)
+            || creation.clusters > u64::from(MOST_CLUSTERS)
+        {
             return Some(DeviceAnswer::Range(Field::Clusters));
         }
         let site = creation.site.unwrap_or(1);
@@ -323,31 +316,40 @@ impl Machine {
         ensures unchanged { OnErr result (self.new ≡ self.old) }
     {
         match request {
-            CallRequest::Enqueue(_, words) => self.enqueue(words),
-            CallRequest::Dequeue(_, words) => self.dequeue(words),
+            CallRequest::Enqueue(session, words) => self.enqueue(*session, words),
+            CallRequest::Dequeue(session, words) => self.dequeue(*session, words),
         }
     }
 
-    fn enqueue(&mut self, words: &EnqueueWords) -> Result<Answer, AllocError>
+    fn enqueue(&mut self, session: u8, words: &EnqueueWords) -> Result<Answer, AllocError>
         requires { self.old.next < 4294967295 }
-        ensures answer { IfOk result (λ a. a ≡ (enqueue words.now self.old).answer) }
-        ensures site { OnOk result (self.new ≡ (enqueue words.now self.old).site) }
+        ensures answer { IfOk result (λ a. a ≡ (enqueue session words.now self.old).answer) }
+        ensures site { OnOk result (self.new ≡ (enqueue session words.now self.old).site) }
         ensures unchanged { OnErr result (self.new ≡ self.old) }
     {
         let size = words.body.len();
         if size > LONGEST_BODY {
             return Ok(Answer::Invalid(size as u64));
         }
-        self.call(&SpaceCall::Enqueue(words))
+        let ask = EnqueueByWords {
+            words,
+            clock: self.clock,
+            next: self.next_arrival(),
+        };
+        self.call(&SpaceCall::Enqueue(ask))
     }
 
-    fn dequeue(&mut self, words: &DequeueWords) -> Result<Answer, AllocError>
+    fn dequeue(&mut self, session: u8, words: &DequeueWords) -> Result<Answer, AllocError>
         requires { self.old.next < 4294967295 }
-        ensures answer { IfOk result (λ a. a ≡ (dequeue words.now self.old).answer) }
-        ensures site { OnOk result (self.new ≡ (dequeue words.now self.old).site) }
+        ensures answer { IfOk result (λ a. a ≡ (dequeue session words.now self.old).answer) }
+        ensures site { OnOk result (self.new ≡ (dequeue session words.now self.old).site) }
         ensures unchanged { OnErr result (self.new ≡ self.old) }
     {
-        self.call(&SpaceCall::Dequeue(words))
+        let ask = DequeueByWords {
+            words,
+            clock: self.clock,
+        };
+        self.call(&SpaceCall::Dequeue(ask))
     }
 
     /// Does a call on a space that goes by its name.
@@ -360,8 +362,7 @@ impl Machine {
         let Some(place) = self.place_of(call.space()) else {
             return Ok(Answer::NoEntry);
         };
-        let next = self.next_arrival();
-        let reply = call_at(&mut self.devices, place, call, self.clock, next)?;
+        let reply = call_at(&mut self.devices, place, call)?;
         self.next += reply.numbers;
         Ok(reply.answer)
     }
@@ -395,16 +396,16 @@ fn field_refused(creation: &SpaceCreation) -> Option<Field>
     ensures field { result ≡ field_refused creation.now }
     ensures within { IfNone result (HasFieldsWithin creation.now) }
 {
-    if creation.pages < 1 || creation.pages > MOST_PAGES {
+    if creation.pages < 1 || creation.pages > u64::from(MOST_PAGES) {
         return Some(Field::Pages);
     }
-    if creation.queues < 1 || creation.queues > 256 {
+    if creation.queues < 1 || creation.queues > u64::from(MOST_QUEUES) {
         return Some(Field::Queues);
     }
-    if creation.transactions < 1 || creation.transactions > 64 {
+    if creation.transactions < 1 || creation.transactions > u64::from(MOST_TRANSACTIONS) {
         return Some(Field::Transactions);
     }
-    if creation.messages < 1 || creation.messages > 8192 {
+    if creation.messages < 1 || creation.messages > u64::from(MOST_MESSAGES) {
         return Some(Field::Messages);
     }
     if creation.memory > MOST_MEMORY {
@@ -489,18 +490,16 @@ fn call_at(
     devices: &mut [Option<CreatedDevice>],
     place: SpacePlace,
     call: &SpaceCall,
-    clock: u64,
-    next: Arrival,
 ) -> Result<Reply, AllocError>
     requires { IsSome (entry_of (slice_index_or devices.old place.dev None) place.entry) }
     ensures reply { IfOk result (λ reply. MatchOption (entry_of (slice_index_or devices.old place.dev None) place.entry) ⊥
-        (λ p. IsReply (logged_outcome call.now clock next p) reply)) }
+        (λ p. IsReply (logged_outcome call.now p) reply)) }
     ensures devices { OnOk result (devices.new ≡ slice_set devices.old place.dev
-        (option_map (entry_changed place.entry (after_call call.now clock next)) (slice_index_or devices.old place.dev None))) }
+        (option_map (entry_changed place.entry (after_call call.now)) (slice_index_or devices.old place.dev None))) }
     ensures unchanged { OnErr result (devices.new ≡ devices.old) }
 {
     match &mut devices[place.dev] {
-        Some(device) => device.call(place.entry, call, clock, next),
+        Some(device) => device.call(place.entry, call),
         None => unreachable!(),
     }
 }

@@ -14,7 +14,7 @@ use crate::space_lists::SpaceLists;
 use std::alloc::{AllocError, Global};
 use std::marker::Model;
 use tq_model::{Answer, Extent, Extents, LogRoom, Shape, SpaceCreation, SpaceLine};
-use tq_types::{Arrival, Name};
+use tq_types::Name;
 
 pub(crate) const HEADER_CLUSTERS: u32 = 4;
 
@@ -110,18 +110,13 @@ impl PlacedSpace {
     }
 
     /// Does a call. After an `Err` the space is as it was.
-    pub(crate) fn call(
-        &mut self,
-        call: &SpaceCall,
-        clock: u64,
-        next: Arrival,
-    ) -> Result<Reply, AllocError>
-        ensures reply { IfOk result (IsReply (logged_outcome call.now clock next self.old)) }
-        ensures space { OnOk result (self.new ≡ after_call call.now clock next self.old) }
+    pub(crate) fn call(&mut self, call: &SpaceCall) -> Result<Reply, AllocError>
+        ensures reply { IfOk result (IsReply (logged_outcome call.now self.old)) }
+        ensures space { OnOk result (self.new ≡ after_call call.now self.old) }
         ensures unchanged { OnErr result (self.new ≡ self.old) }
     {
-        if let Some(refusal) = self.space.refusal(call, clock) {
-            self.space.refuse(call, clock);
+        if let Some(refusal) = self.space.refusal(call) {
+            self.space.refuse(call);
             return Ok(Reply {
                 answer: refusal,
                 numbers: 0,
@@ -133,7 +128,7 @@ impl PlacedSpace {
                 numbers: 0,
             });
         }
-        let answer = self.space.grant(call, clock, next)?;
+        let answer = self.space.grant(call)?;
         // The sum fits, as the log of any `u32` of pages does.
         let _pages = self.pages;
         self.logged += 5 + call.payload_length();

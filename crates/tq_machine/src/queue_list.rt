@@ -3,7 +3,7 @@
 ghost use Rattle.std.specs.Prelude.{◌≡◌, ◌<◌, ◌^◌, ◌&&◌, false, not, [], length, filter, map, option_map, option_copied, OnOk, OnErr};
 ghost use Rattle.std.specs.List.{find, list_any, position, position_or_len};
 ghost use Rattle.tq_model.specs.Space.{is_named, comes_after, holds_id, has_id, stands_before, is_eligible, is_expired, outlives, purged_queue, crashed_queue, with_entry, without_entry};
-ghost use Rattle.tq_model.specs.Moves.{queue_of, entry_view};
+ghost use Rattle.tq_model.specs.Moves.{queue_of, entry_view, session_owners};
 ghost use Rattle.tq_model.specs.Room.{pages_of_entry, queue_pages};
 ghost use Rattle.tq_model.specs.SpaceForm.{default_queue};
 ghost use Rattle.tq_machine.specs.Entries.{free_entry};
@@ -24,11 +24,11 @@ pub(crate) struct QueueList {
 impl Model for QueueList {
     ghost use Rattle.std.specs.Prelude.{map};
     ghost use Rattle.tq_model.specs.Space.{Queue};
-    ghost use Rattle.tq_model.specs.Moves.{queue_of, entry_view};
+    ghost use Rattle.tq_model.specs.Moves.{queue_of, entry_view, session_owners};
 
     ghost Value = { Queue };
 
-    ghost view = { λ q. queue_of q.def (map entry_view q.items.items) };
+    ghost view = { λ q. queue_of q.def (map (entry_view session_owners) q.items.items) };
 }
 
 impl QueueList {
@@ -84,7 +84,7 @@ impl QueueList {
 
     /// The first eligible entry.
     pub(crate) fn eligible(&self, clock: u64) -> Option<&Entry>
-        ensures { option_map entry_view (option_copied result) ≡ find (is_eligible clock) self.now.items }
+        ensures { option_map (entry_view session_owners) (option_copied result) ≡ find (is_eligible clock) self.now.items }
     {
         first_eligible(&self.items, clock)
     }
@@ -116,8 +116,8 @@ impl QueueList {
     /// Puts in an entry that is not expired, where it has its place once the expired entries are
     /// dropped. After an `Err` the queue is as it was.
     pub(crate) fn add(&mut self, entry: Entry, clock: u64) -> Result<(), AllocError>
-        requires { is_expired clock (entry_view entry) ≡ false }
-        ensures ok { OnOk result (purged_queue clock self.new ≡ with_entry (entry_view entry) (purged_queue clock self.old)) }
+        requires { is_expired clock (entry_view session_owners entry) ≡ false }
+        ensures ok { OnOk result (purged_queue clock self.new ≡ with_entry (entry_view session_owners entry) (purged_queue clock self.old)) }
         ensures err { OnErr result (self.new ≡ self.old) }
     {
         let place = place_for(&self.items, &self.def.order, &entry, clock);
@@ -127,27 +127,27 @@ impl QueueList {
 }
 
 fn entry_pages(entry: &Entry) -> u64
-    ensures { result ≡ pages_of_entry (entry_view entry.now) }
+    ensures { result ≡ pages_of_entry (entry_view session_owners entry.now) }
 {
     message_pages(entry.message.qos, entry.message.body.len())
 }
 
 /// Whether an entry has that identifier.
 fn any_has_id(items: &[Entry], id: &MsgId) -> bool
-    ensures { result ≡ list_any (λ entry. has_id id.now (entry_view entry)) items.now }
+    ensures { result ≡ list_any (λ entry. has_id id.now (entry_view session_owners entry)) items.now }
 {
     items.iter().any(|entry| has_id(entry, id))
 }
 
 /// The first place of an entry of that identifier.
 fn place_of_id(items: &[Entry], id: &MsgId) -> Option<usize>
-    ensures { result ≡ position (λ entry. has_id id.now (entry_view entry)) items.now }
+    ensures { result ≡ position (λ entry. has_id id.now (entry_view session_owners entry)) items.now }
 {
     items.iter().position(|entry| has_id(entry, id))
 }
 
 fn count_lasting(items: &[Entry], clock: u64) -> usize
-    ensures { result ≡ length (filter (λ entry. not (is_expired clock (entry_view entry))) items.now) }
+    ensures { result ≡ length (filter (λ entry. not (is_expired clock (entry_view session_owners entry))) items.now) }
 {
     items
         .iter()
@@ -156,27 +156,27 @@ fn count_lasting(items: &[Entry], clock: u64) -> usize
 }
 
 fn first_eligible(items: &[Entry], clock: u64) -> Option<&Entry>
-    ensures { option_copied result ≡ find (λ entry. is_eligible clock (entry_view entry)) items.now }
+    ensures { option_copied result ≡ find (λ entry. is_eligible clock (entry_view session_owners entry)) items.now }
 {
     items.iter().find(|entry| is_eligible(entry, clock))
 }
 
 fn drop_expired(items: &mut Vec<Entry>, clock: u64)
-    ensures { items.new.items ≡ filter (λ entry. not (is_expired clock (entry_view entry))) items.old.items }
+    ensures { items.new.items ≡ filter (λ entry. not (is_expired clock (entry_view session_owners entry))) items.old.items }
 {
     items.retain(|entry| !is_expired(entry, clock));
 }
 
 fn keep_outliving(items: &mut Vec<Entry>)
-    ensures { items.new.items ≡ filter (λ entry. outlives (entry_view entry)) items.old.items }
+    ensures { items.new.items ≡ filter (λ entry. outlives (entry_view session_owners entry)) items.old.items }
 {
     items.retain(outlives);
 }
 
 /// The first place of an entry that is not expired and that comes after this one.
 fn place_after(items: &[Entry], order: &Order, entry: &Entry, clock: u64) -> Option<usize>
-    ensures { result ≡ position (λ other. not (is_expired clock (entry_view other)) && stands_before order.now (entry_view entry.now)
-        (entry_view other)) items.now }
+    ensures { result ≡ position (λ other. not (is_expired clock (entry_view session_owners other))
+        && stands_before order.now (entry_view session_owners entry.now) (entry_view session_owners other)) items.now }
 {
     items.iter().position(|other| {
         !is_expired(other, clock) && compare(order, &entry.label, &other.label).is_lt()
@@ -185,8 +185,8 @@ fn place_after(items: &[Entry], order: &Order, entry: &Entry, clock: u64) -> Opt
 
 /// The same, or the end.
 fn place_for(items: &[Entry], order: &Order, entry: &Entry, clock: u64) -> usize
-    ensures { result ≡ position_or_len (λ other. not (is_expired clock (entry_view other)) && stands_before order.now (entry_view entry.now)
-        (entry_view other)) items.now }
+    ensures { result ≡ position_or_len (λ other. not (is_expired clock (entry_view session_owners other))
+        && stands_before order.now (entry_view session_owners entry.now) (entry_view session_owners other)) items.now }
 {
     place_after(items, order, entry, clock).unwrap_or(items.len())
 }

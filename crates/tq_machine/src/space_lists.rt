@@ -3,16 +3,16 @@
 ghost use Rattle.std.specs.Prelude.{◌≡◌, ◌<◌, ◌+◌, ◌^◌, ℕ, List, false, if◌then◌else◌, [], ◌∷◌, length, map, Some, None, option_copied, IsSome, IfOk, OnOk, OnErr};
 ghost use Rattle.std.specs.List.{list_any, position, position_or_len, sum_by};
 ghost use Rattle.tq_model.specs.Space.{Free, is_named, comes_after, holds_id, is_expired, purged, purged_queue, crashed, crashed_queue, new_space, queue_named, without, with_entry_in};
-ghost use Rattle.tq_model.specs.Moves.{entry_view};
+ghost use Rattle.tq_model.specs.Moves.{entry_view, session_owners};
 ghost use Rattle.tq_model.specs.Room.{queue_pages, first_lacking, message_rooms};
 ghost use Rattle.tq_model.specs.EnqueueStep.{next_id, plain_label, message_to_come, enqueue_step, enqueue_refusal};
 ghost use Rattle.tq_model.specs.DequeueStep.{delivered, dequeue_step, dequeue_refusal};
-ghost use Rattle.tq_model.specs.Step.{queue_refusal, with_queue, enqueue_call, dequeue_call};
-ghost use Rattle.tq_machine.specs.SpaceCalls.{outcome_of};
-ghost use Rattle.tq_types.specs.declared.identifiers.Arrival.{Arrival};
+ghost use Rattle.tq_model.specs.CallChecks.{enqueue_call, dequeue_call};
+ghost use Rattle.tq_model.specs.Step.{queue_refusal, with_queue};
+ghost use Rattle.tq_machine.specs.SpaceCalls.{enqueue_asked, dequeue_asked, outcome_of};
 
 use crate::queue_list::QueueList;
-use crate::space_call::SpaceCall;
+use crate::space_call::{DequeueByWords, EnqueueByWords, SpaceCall};
 use std::alloc::{AllocError, Global};
 use std::marker::Model;
 use tq_model::{
@@ -99,24 +99,25 @@ impl SpaceLists {
     }
 
     /// The first reason against a call, but for the log.
-    pub(crate) fn refusal(&self, call: &SpaceCall, clock: u64) -> Option<Answer>
-        ensures { (next : Arrival) → result ≡ (outcome_of call.now clock next self.now).refusal }
+    pub(crate) fn refusal(&self, call: &SpaceCall) -> Option<Answer>
+        ensures { result ≡ (outcome_of call.now self.now).refusal }
     {
         match call {
             SpaceCall::Queue(creation) => self.queue_refusal(&creation.queue),
-            SpaceCall::Enqueue(words) => self.enqueue_refusal(words, clock).map(Answer::Call),
-            SpaceCall::Dequeue(words) => self.dequeue_refusal(words, clock).map(Answer::Call),
+            SpaceCall::Enqueue(ask) => self.enqueue_refusal(ask).map(Answer::Call),
+            SpaceCall::Dequeue(ask) => self.dequeue_refusal(ask).map(Answer::Call),
         }
     }
 
     /// Leaves what a call leaves that is refused.
-    pub(crate) fn refuse(&mut self, call: &SpaceCall, clock: u64)
-        requires { (next : Arrival) → IsSome (outcome_of call.now clock next self.old).refusal }
-        ensures { (next : Arrival) → self.new ≡ (outcome_of call.now clock next self.old).space }
+    pub(crate) fn refuse(&mut self, call: &SpaceCall)
+        requires { IsSome (outcome_of call.now self.old).refusal }
+        ensures { self.new ≡ (outcome_of call.now self.old).space }
     {
         match call {
             SpaceCall::Queue(_) => (),
-            SpaceCall::Enqueue(_) | SpaceCall::Dequeue(_) => self.purge(clock),
+            SpaceCall::Enqueue(ask) => self.purge(ask.clock),
+            SpaceCall::Dequeue(ask) => self.purge(ask.clock),
         }
     }
 
@@ -133,13 +134,14 @@ impl SpaceLists {
         None
     }
 
-    fn enqueue_refusal(&self, words: &EnqueueWords, clock: u64) -> Option<CallAnswer>
-        ensures { result ≡ enqueue_refusal self.now (enqueue_call words.now clock) clock }
+    fn enqueue_refusal(&self, ask: &EnqueueByWords) -> Option<CallAnswer>
+        ensures { result ≡ enqueue_refusal self.now (enqueue_asked ask.now.words.now ask.now.clock ask.now.next) }
     {
+        let words = ask.words;
         let Some(queue) = queue_named(&self.queues, &words.queue) else {
             return Some(CallAnswer::BadQueue);
         };
-        match self.lack(clock, message_pages(queue.qos(), words.body.len())) {
+        match self.lack(ask.clock, message_pages(queue.qos(), words.body.len())) {
             Some(lack) => Some(CallAnswer::NoSpace(lack)),
             None => None,
         }
@@ -161,28 +163,23 @@ impl SpaceLists {
         )
     }
 
-    fn dequeue_refusal(&self, words: &DequeueWords, clock: u64) -> Option<CallAnswer>
-        ensures { result ≡ dequeue_refusal self.now (dequeue_call words.now) clock }
+    fn dequeue_refusal(&self, ask: &DequeueByWords) -> Option<CallAnswer>
+        ensures { result ≡ dequeue_refusal self.now (dequeue_asked ask.now.words.now ask.now.clock) }
     {
-        let Some(queue) = queue_named(&self.queues, &words.queue) else {
+        let Some(queue) = queue_named(&self.queues, &ask.words.queue) else {
             return Some(CallAnswer::BadQueue);
         };
-        match queue.eligible(clock) {
+        match queue.eligible(ask.clock) {
             Some(_) => None,
             None => Some(CallAnswer::NoMessage),
         }
     }
 
     /// Does a call that is granted. After an `Err` the space is as it was.
-    pub(crate) fn grant(
-        &mut self,
-        call: &SpaceCall,
-        clock: u64,
-        next: Arrival,
-    ) -> Result<Answer, AllocError>
-        requires { (outcome_of call.now clock next self.old).refusal ≡ None }
-        ensures answer { IfOk result (λ a. a ≡ (outcome_of call.now clock next self.old).answer) }
-        ensures space { OnOk result (self.new ≡ (outcome_of call.now clock next self.old).space) }
+    pub(crate) fn grant(&mut self, call: &SpaceCall) -> Result<Answer, AllocError>
+        requires { (outcome_of call.now self.old).refusal ≡ None }
+        ensures answer { IfOk result (λ a. a ≡ (outcome_of call.now self.old).answer) }
+        ensures space { OnOk result (self.new ≡ (outcome_of call.now self.old).space) }
         ensures unchanged { OnErr result (self.new ≡ self.old) }
     {
         match call {
@@ -190,8 +187,8 @@ impl SpaceLists {
                 self.add_queue(&creation.queue)?;
                 Ok(Answer::Done)
             }
-            SpaceCall::Enqueue(words) => Ok(Answer::Call(self.add_message(words, clock, next)?)),
-            SpaceCall::Dequeue(words) => Ok(Answer::Call(self.take_message(words, clock)?)),
+            SpaceCall::Enqueue(ask) => Ok(Answer::Call(self.add_message(ask)?)),
+            SpaceCall::Dequeue(ask) => Ok(Answer::Call(self.take_message(ask)?)),
         }
     }
 
@@ -217,41 +214,37 @@ impl SpaceLists {
         }
     }
 
-    fn add_message(
-        &mut self,
-        words: &EnqueueWords,
-        clock: u64,
-        next: Arrival,
-    ) -> Result<CallAnswer, AllocError>
-        requires { enqueue_refusal self.old (enqueue_call words.now clock) clock ≡ None }
-        ensures answer { IfOk result (λ a. a ≡ (enqueue_step self.old (enqueue_call words.now clock) clock next).answer) }
-        ensures space { OnOk result (self.new ≡ (enqueue_step self.old (enqueue_call words.now clock) clock next).space) }
+    fn add_message(&mut self, ask: &EnqueueByWords) -> Result<CallAnswer, AllocError>
+        requires { enqueue_refusal self.old (enqueue_asked ask.now.words.now ask.now.clock ask.now.next) ≡ None }
+        ensures answer { IfOk result (λ a. a ≡ (enqueue_step self.old (enqueue_asked ask.now.words.now ask.now.clock ask.now.next)).answer) }
+        ensures space { OnOk result (self.new ≡ (enqueue_step self.old (enqueue_asked ask.now.words.now ask.now.clock ask.now.next)).space) }
         ensures unchanged { OnErr result (self.new ≡ self.old) }
     {
+        let words = ask.words;
         let Some(place) = place_named(&self.queues, &words.queue) else {
             unreachable!()
         };
-        let id = self.next_id(next);
-        let entry = new_entry(words, clock, next, self.queues[place].qos(), id)?;
-        add_at(&mut self.queues, place, entry, clock)?;
+        let id = self.next_id(ask.next);
+        let entry = new_entry(words, ask.clock, ask.next, self.queues[place].qos(), id)?;
+        add_at(&mut self.queues, place, entry, ask.clock)?;
         Ok(CallAnswer::Enqueued(asked_id(words.flags.wants_id(), id)))
     }
 
-    fn take_message(&mut self, words: &DequeueWords, clock: u64) -> Result<CallAnswer, AllocError>
-        requires { dequeue_refusal self.old (dequeue_call words.now) clock ≡ None }
-        ensures answer { IfOk result (λ a. a ≡ (dequeue_step self.old (dequeue_call words.now) clock).answer) }
-        ensures space { OnOk result (self.new ≡ (dequeue_step self.old (dequeue_call words.now) clock).space) }
+    fn take_message(&mut self, ask: &DequeueByWords) -> Result<CallAnswer, AllocError>
+        requires { dequeue_refusal self.old (dequeue_asked ask.now.words.now ask.now.clock) ≡ None }
+        ensures answer { IfOk result (λ a. a ≡ (dequeue_step self.old (dequeue_asked ask.now.words.now ask.now.clock)).answer) }
+        ensures space { OnOk result (self.new ≡ (dequeue_step self.old (dequeue_asked ask.now.words.now ask.now.clock)).space) }
         ensures unchanged { OnErr result (self.new ≡ self.old) }
     {
-        let Some(queue) = queue_named(&self.queues, &words.queue) else {
+        let Some(queue) = queue_named(&self.queues, &ask.words.queue) else {
             unreachable!()
         };
-        let Some(entry) = queue.eligible(clock) else {
+        let Some(entry) = queue.eligible(ask.clock) else {
             unreachable!()
         };
-        let delivery = delivery_of(entry, words)?;
+        let delivery = delivery_of(entry, ask.words)?;
         let id = entry.message.id;
-        take_out(&mut self.queues, &id, clock);
+        take_out(&mut self.queues, &id, ask.clock);
         Ok(CallAnswer::Dequeued(delivery))
     }
 }
@@ -348,9 +341,9 @@ fn add_at(
     clock: u64,
 ) -> Result<(), AllocError>
     requires within { place < length queues.old }
-    requires lasts { is_expired clock (entry_view entry) ≡ false }
+    requires lasts { is_expired clock (entry_view session_owners entry) ≡ false }
     ensures ok { OnOk result ((name : List ℕ) → position (is_named name) queues.old ≡ Some place
-        → queues.new ≡ with_entry_in name (entry_view entry) (map (purged_queue clock) queues.old)) }
+        → queues.new ≡ with_entry_in name (entry_view session_owners entry) (map (purged_queue clock) queues.old)) }
     ensures err { OnErr result (queues.new ≡ queues.old) }
 {
     queues[place].add(entry, clock)?;
@@ -412,7 +405,7 @@ fn new_entry(
     qos: Qos,
     id: MsgId,
 ) -> Result<Entry, AllocError>
-    ensures { IfOk result (λ e. entry_view e ≡ record
+    ensures { IfOk result (λ e. entry_view session_owners e ≡ record
         { label = plain_label (enqueue_call words.now clock) next; mark = Free; message = message_to_come (enqueue_call words.now clock) qos id }) }
 {
     Ok(Entry {
@@ -447,7 +440,7 @@ fn new_entry(
 
 /// An entry as it is handed out.
 fn delivery_of(entry: &Entry, words: &DequeueWords) -> Result<Delivery, AllocError>
-    ensures { IfOk result (λ d. CallAnswer.Dequeued d ≡ delivered (dequeue_call words.now) (entry_view entry.now)) }
+    ensures { IfOk result (λ d. CallAnswer.Dequeued d ≡ delivered (dequeue_call words.now) (entry_view session_owners entry.now)) }
 {
     Ok(Delivery {
         body: entry.message.body.copy()?,

@@ -1,13 +1,12 @@
 -- On a device without spaces a new space gets the first entry and the first clusters.
-use Rattle.std.proofs.Common.{◌≡◌, ◌≤◌, ℕ, zero, suc, ◌+◌, ◌-◌, Bool, true, false, cond, not, List, [], ◌∷◌, length, take, Option, Some, None, refl, sym, ap, ◌∙◌, arith, ltb-false, leb-false}
+use Rattle.std.proofs.Common.{◌≡◌, ◌≤◌, ℕ, zero, suc, ◌+◌, ◌-◌, Bool, true, false, not, List, [], ◌∷◌, length, take, Option, Some, None, refl, ap, ◌∙◌, arith, ltb-false, leb-false}
 use Rattle.std.specs.Prelude.{◌==◌, nat_le, nat_lt, filter, replicate, if◌then◌else◌}
 use Rattle.std.specs.List.{list_any}
 use Rattle.std.proofs.lemmas.Bool.{eq-eqb}
-use Rattle.tq_model.specs.declared.answer.Answer.{Answer}
 use Rattle.tq_model.specs.declared.answer.Extent.{Extent}
 use Rattle.tq_model.specs.declared.request.SpaceCreation.{SpaceCreation}
 use Rattle.tq_model.specs.Space.{overhead_pages}
-use Rattle.tq_model.specs.Site.{Volume, SpaceOnDevice, header_clusters, present, spaces_on, clusters_for, free_clusters, numbers_from, covers, is_taken, lowest_free, with_cluster, as_extents, entries_with}
+use Rattle.tq_model.specs.Site.{Volume, SpaceOnDevice, header_clusters, present, spaces_on, clusters_for, free_clusters, numbers_from, covers, lowest_free, with_cluster, as_extents, entries_with}
 use Rattle.tq_model.specs.Parts.{table_with, first_extents}
 use Rattle.tq_model.specs.Step.{shape_asked, has_its_space, is_table_full, placing_refusal, pages_refusal, placed_new, with_space_made}
 

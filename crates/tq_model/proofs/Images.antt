@@ -10,15 +10,15 @@ use Rattle.std.proofs.lemmas.List.Elements.{All-nil, All-cons, All-head, All-tai
 use Rattle.std.proofs.lemmas.List.Folds.{list_all-append, list_all-map, map_fixed}
 use Rattle.std.proofs.lemmas.Option.{same_Some}
 use Rattle.tq_model.specs.DeviceForm.{Journal, bytes_of, first_page}
-use Rattle.tq_model.specs.Space.{Entry, Space, Queue, crashed}
+use Rattle.tq_model.specs.Space.{Space, Queue}
 use Rattle.tq_model.specs.Moves.{IndexedQueue, IndexedSpace, the_queue, space_of}
 use Rattle.tq_model.specs.Plain.{KeepsAllAtCrash}
-use Rattle.tq_model.specs.SpaceForm.{RawSpace, raw_space, shape_of, empty_space, replayed}
+use Rattle.tq_model.specs.SpaceForm.{raw_space, shape_of, empty_space, replayed}
 use Rattle.tq_model.proofs.RecordMoves.{crashed_plain}
-use Rattle.tq_model.proofs.Replays.{AreUpto, replayed_keeps, replayed_plain, empty_plain, replayed_upto, empty_upto}
+use Rattle.tq_model.proofs.Replays.{AreUpto, replayed_plain, empty_plain, replayed_upto, empty_upto}
 use Rattle.tq_model.specs.Site.{Site, Volume, SpaceOnDevice, present, durable, durable_space, on_spaces}
 use Rattle.tq_model.specs.Parts.{IsPart, table_with}
-use Rattle.tq_model.specs.Reading.{Content, Reading, Blank, Holds, Damaged, Stands, FirstDamaged, reading, is_whole, content_of, content_with, site_read, site_in, site_found, combined, combined_by, is_damaged, goes_with, are_upto, is_upto, journal_epoch, volume_read, below, DevicePart, NamedSpace, device_part, device_tests, space_tests, page_tests, hold_all, replayed_in, placed_as, placed_in, Replayed, space_in, payloads_in, epoch_bound}
+use Rattle.tq_model.specs.Reading.{Content, Reading, Blank, Holds, Damaged, reading, is_whole, content_of, content_with, site_read, site_in, site_found, combined, combined_by, is_damaged, goes_with, is_upto, journal_epoch, volume_read, below, DevicePart, NamedSpace, device_part, device_tests, space_tests, page_tests, hold_all, replayed_in, placed_as, placed_in, Replayed, space_in, payloads_in, epoch_bound}
 
 all_append : (xs ys : List Bool) → hold_all (xs ++ ys) ≡ (hold_all xs && hold_all ys)
 all_append xs ys = list_all-append (λ test. test) xs ys

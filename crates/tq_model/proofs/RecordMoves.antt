@@ -13,7 +13,7 @@ use Rattle.tq_model.specs.declared.space.SpaceMove.TheVariants.{PutQueue}
 use Rattle.tq_model.specs.declared.record.SpaceRecord.{SpaceRecord}
 use Rattle.tq_model.specs.declared.record.SpaceRecord.TheVariants.{Added, Gone, QueueMade}
 use Rattle.tq_model.specs.Space.{is_persistent, is_adding, Entry, Queue, change_first, same_id, has_id, is_named, stands_before, with_entry, without_entry, comes_after, outlives, freed, crashed_queue, crashed}
-use Rattle.tq_model.specs.Moves.{IndexedQueue, IndexedSpace, the_queue, space_of, entry_view, queue_of, has_index, on_queue, indexed_holds, comes_before, queue_put, moved}
+use Rattle.tq_model.specs.Moves.{IndexedQueue, IndexedSpace, the_queue, space_of, owner_in, entry_view, queue_of, has_index, on_queue, indexed_holds, comes_before, queue_put, moved}
 use Rattle.tq_model.specs.SpaceForm.{id_in, plain_entry, default_queue, move_of, holds_arrival, holds_name}
 use Rattle.tq_model.specs.Plain.{SurvivesCrash, HasOnlySurvivors, KeepsAllAtCrash, AllEntries, AllIds, HasEpochs, IsBefore, IsNewer}
 use Rattle.tq_model.specs.Step.{has_queue, with_queue}
@@ -75,7 +75,7 @@ All-put P index d queues keeps new all =
 -- Each record leaves a plain space plain.
 pub moved_plain : (t : IndexedSpace) (r : SpaceRecord) → KeepsAllAtCrash t → KeepsAllAtCrash (moved (move_of t r) t)
 moved_plain t (Added queue arrival body) plain =
-    let item = entry_view (plain_entry queue arrival (id_in t arrival) body) in
+    let item = entry_view (owner_in t.owners) (plain_entry queue arrival (id_in t arrival) body) in
     All-change_first HasOnlySurvivors (has_index queue) (on_queue (with_entry item))
     (λ q is. record {
       qos = is.qos;
@@ -112,10 +112,10 @@ crashed_plain t plain =
 -- ---- entries and identifiers
 
 -- What holds of all entries holds after each record, where it holds of the one that comes in.
-pub entries_added : (P : Entry → Type 0) (t : IndexedSpace) (queue : ℕ) (arrival : Arrival) (body : List ℕ) → P (entry_view (plain_entry queue arrival (id_in t arrival) body))
+pub entries_added : (P : Entry → Type 0) (t : IndexedSpace) (queue : ℕ) (arrival : Arrival) (body : List ℕ) → P (entry_view (owner_in t.owners) (plain_entry queue arrival (id_in t arrival) body))
     → AllEntries P t → AllEntries P (moved (move_of t (Added queue arrival body)) t)
 entries_added P t queue arrival body here all =
-    let item = entry_view (plain_entry queue arrival (id_in t arrival) body) in
+    let item = entry_view (owner_in t.owners) (plain_entry queue arrival (id_in t arrival) body) in
     All-change_first (λ (q : IndexedQueue). All P q.queue.items) (has_index queue) (on_queue (with_entry item))
     (λ q is. All-insert P q.queue.items (position_or_len (stands_before q.queue.order item) q.queue.items) item here is)
     t.queues all
@@ -221,7 +221,7 @@ put_distinct index d queues distinct i =
 -- No index comes to stand twice.
 pub moved_distinct : (t : IndexedSpace) (r : SpaceRecord) → HasDistinctIndices t → HasDistinctIndices (moved (move_of t r) t)
 moved_distinct t (Added queue arrival body) distinct index =
-    kept_distinct index (has_index queue) (with_entry (entry_view (plain_entry queue arrival (id_in t arrival) body))) t.queues (distinct index)
+    kept_distinct index (has_index queue) (with_entry (entry_view (owner_in t.owners) (plain_entry queue arrival (id_in t arrival) body))) t.queues (distinct index)
 moved_distinct t (Gone arrival) distinct index = kept_distinct index (indexed_holds (id_in t arrival)) (without_entry (id_in t arrival)) t.queues (distinct index)
 moved_distinct t (QueueMade new name) distinct index = put_distinct new (default_queue name) t.queues distinct index
 

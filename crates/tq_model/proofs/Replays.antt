@@ -12,7 +12,7 @@ use Rattle.tq_model.specs.declared.record.SpaceRecord.{SpaceRecord}
 use Rattle.tq_model.specs.declared.record.SpaceRecord.TheVariants.{Added, Gone, QueueMade}
 use Rattle.tq_model.specs.Space.{Entry}
 use Rattle.tq_model.specs.Reading.{is_upto}
-use Rattle.tq_model.specs.Moves.{IndexedQueue, IndexedSpace, space_of, has_index, entry_view, moved}
+use Rattle.tq_model.specs.Moves.{IndexedQueue, IndexedSpace, space_of, owner_in, has_index, entry_view, moved}
 use Rattle.tq_model.specs.Room.{pages_for, messages_held, pages_held}
 use Rattle.tq_model.specs.SpaceForm.{holds_arrival, can_add, can_follow, id_in, plain_entry, move_of, followed, followed_by, record_in, replayed, empty_space}
 use Rattle.tq_model.specs.Plain.{HasOnlySurvivors, KeepsAllAtCrash, AllEntries, AllIds, HasEpochs}
@@ -159,7 +159,7 @@ AreUpto epoch s = AllEntries (λ item. is_upto epoch item ≡ true) s
 pub empty_upto : (epoch : ℕ) (shape : Shape) (site number : ℕ) → AreUpto epoch (empty_space shape site number)
 empty_upto epoch shape site number = All-nil (λ (q : IndexedQueue). All (λ (item : Entry). is_upto epoch item ≡ true) q.queue.items)
 
-added_upto : (epoch : ℕ) (s : IndexedSpace) (queue : ℕ) (arrival : Arrival) (body : List ℕ) → arrival.epoch ≤ epoch → is_upto epoch (entry_view (plain_entry queue arrival (id_in s arrival) body)) ≡ true
+added_upto : (epoch : ℕ) (s : IndexedSpace) (queue : ℕ) (arrival : Arrival) (body : List ℕ) → arrival.epoch ≤ epoch → is_upto epoch (entry_view (owner_in s.owners) (plain_entry queue arrival (id_in s arrival) body)) ≡ true
 added_upto epoch s queue arrival body le = ap (λ b. b && (b && true)) (le-leb arrival.epoch epoch le)
 
 moved_upto : (epoch : ℕ) (s : IndexedSpace) (r : SpaceRecord) → can_follow epoch s r ≡ true → AreUpto epoch s → AreUpto epoch (moved (move_of s r) s)

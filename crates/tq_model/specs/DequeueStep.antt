@@ -5,6 +5,7 @@ use Rattle.std.specs.Str.{bytes_eq}
 use Rattle.tq_types.specs.declared.identifiers.MsgId.{MsgId}
 use Rattle.tq_types.specs.declared.identifiers.CorrId.{CorrId}
 use Rattle.tq_model.specs.declared.calls.DequeueCall.{DequeueCall}
+use Rattle.tq_model.specs.declared.calls.DequeueAsk.{DequeueAsk}
 use Rattle.tq_model.specs.declared.calls.CallAnswer.{CallAnswer}
 use Rattle.tq_model.specs.declared.calls.CallAnswer.TheVariants.{Dequeued, BadQueue, NoMessage}
 use Rattle.tq_model.specs.CallFlags.{wants_id}
@@ -56,12 +57,12 @@ taken_from s call None = s
 taken_from s call (Some item) = if call.peek then s else space_without item.message.id s
 
 -- The step: the space is purged, and the first eligible candidate is handed out.
-abbrev pub dequeue_step : Space → DequeueCall → ℕ → CallOutcome
-dequeue_step before call clock =
-    let s = purged clock before in
-    let queue = queue_named call.queue s.queues in
-    let found = found_in call clock queue in
-    record { space = taken_from s call found; answer = dequeue_answer call queue found }
+abbrev pub dequeue_step : Space → DequeueAsk → CallOutcome
+dequeue_step before ask =
+    let s = purged ask.clock before in
+    let queue = queue_named ask.call.queue s.queues in
+    let found = found_in ask.call ask.clock queue in
+    record { space = taken_from s ask.call found; answer = dequeue_answer ask.call queue found }
 
 -- The refusal, where no entry answers the call.
 abbrev pub refusal_at : Option Queue → Option Entry → Option CallAnswer
@@ -69,8 +70,8 @@ refusal_at None found = Some BadQueue
 refusal_at (Some queue) None = Some NoMessage
 refusal_at (Some queue) (Some item) = None
 
-abbrev pub dequeue_refusal : Space → DequeueCall → ℕ → Option CallAnswer
-dequeue_refusal before call clock =
-    let s = purged clock before in
-    let queue = queue_named call.queue s.queues in
-    refusal_at queue (found_in call clock queue)
+abbrev pub dequeue_refusal : Space → DequeueAsk → Option CallAnswer
+dequeue_refusal before ask =
+    let s = purged ask.clock before in
+    let queue = queue_named ask.call.queue s.queues in
+    refusal_at queue (found_in ask.call ask.clock queue)

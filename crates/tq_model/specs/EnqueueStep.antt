@@ -1,5 +1,5 @@
 -- The enqueue step on one space, of a call that is outside transactions and placed plainly.
-use Rattle.std.specs.Prelude.{ℕ, pos, false, if◌then◌else◌, [], length, Option, Some, None, option_map}
+use Rattle.std.specs.Prelude.{pos, false, if◌then◌else◌, [], length, Option, Some, None, option_map}
 use Rattle.tq_types.specs.declared.identifiers.Arrival.{Arrival}
 use Rattle.tq_types.specs.declared.identifiers.MsgId.{MsgId}
 use Rattle.tq_types.specs.declared.labels.Label.{Label}
@@ -8,6 +8,7 @@ use Rattle.tq_types.specs.declared.messages.Qos.TheVariants as qualities
 use Rattle.tq_types.specs.declared.messages.AskedQos.{AskedQos}
 use Rattle.tq_types.specs.declared.messages.AskedQos.TheVariants.{Default, Persistent, NonPersistent}
 use Rattle.tq_model.specs.declared.calls.EnqueueCall.{EnqueueCall}
+use Rattle.tq_model.specs.declared.calls.EnqueueAsk.{EnqueueAsk}
 use Rattle.tq_model.specs.declared.calls.CallAnswer.{CallAnswer}
 use Rattle.tq_model.specs.declared.calls.CallAnswer.TheVariants.{Enqueued, BadQueue, NoSpace}
 use Rattle.tq_model.specs.Space.{Space, Queue, Entry, Message, Free, Here, queue_named, with_entry_in, purged}
@@ -68,8 +69,8 @@ abbrev pub enqueue_refusal_at : Space → Space → EnqueueCall → Option Queue
 enqueue_refusal_at before s call None = Some BadQueue
 enqueue_refusal_at before s call (Some queue) = room_refusal before s call queue
 
-abbrev pub enqueue_refusal : Space → EnqueueCall → ℕ → Option CallAnswer
-enqueue_refusal before call clock = let s = purged clock before in enqueue_refusal_at before s call (queue_named call.queue s.queues)
+abbrev pub enqueue_refusal : Space → EnqueueAsk → Option CallAnswer
+enqueue_refusal before ask = let s = purged ask.clock before in enqueue_refusal_at before s ask.call (queue_named ask.call.queue s.queues)
 
 -- a granted enqueue: the message is in its queue, free at once
 abbrev pub with_message : Space → EnqueueCall → Arrival → Option Queue → Space
@@ -89,7 +90,7 @@ unless_refused (Some refusal) s granted = record { space = s; answer = refusal }
 unless_refused None s granted = granted
 
 -- The step: the space is purged, the refusals are tried, and where none comes the message is there.
-abbrev pub enqueue_step : Space → EnqueueCall → ℕ → Arrival → CallOutcome
-enqueue_step before call clock next =
-    let s = purged clock before in
-    unless_refused (enqueue_refusal before call clock) s (enqueued s call next)
+abbrev pub enqueue_step : Space → EnqueueAsk → CallOutcome
+enqueue_step before ask =
+    let s = purged ask.clock before in
+    unless_refused (enqueue_refusal before ask) s (enqueued s ask.call ask.next)

@@ -19,6 +19,7 @@ use Rattle.tq_model.specs.declared.request.Request.TheVariants.{Nothing, Boot as
 use Rattle.tq_model.specs.declared.request.DeviceRequest.TheVariants.{Create, List as ListOf}
 use Rattle.tq_model.specs.declared.request.SpaceRequest.TheVariants as space_requests
 use Rattle.tq_model.specs.declared.request.CallRequest.TheVariants as call_requests
+use Rattle.tq_model.specs.declared.request.Creation.{Creation}
 use Rattle.tq_model.specs.declared.request.SpaceCreation.{SpaceCreation}
 use Rattle.tq_model.specs.declared.calls.EnqueueWords.{EnqueueWords}
 use Rattle.tq_model.specs.declared.calls.DequeueWords.{DequeueWords}
@@ -130,26 +131,9 @@ text_of (b ∷ bytes) = if b == 34 then text_from Item bytes else None
 
 abbrev pub flag_word : Flag → List ℕ
 flag_word flags.NoFlags = codes "TPNOFLAGS"
-flag_word flags.Priority = codes "TPQPRIORITY"
-flag_word flags.TimeAbsolute = codes "TPQTIME_ABS"
-flag_word flags.TimeRelative = codes "TPQTIME_REL"
-flag_word flags.ExpirationAbsolute = codes "TPQEXPTIME_ABS"
-flag_word flags.ExpirationRelative = codes "TPQEXPTIME_REL"
-flag_word flags.ExpirationNone = codes "TPQEXPTIME_NONE"
-flag_word flags.Top = codes "TPQTOP"
-flag_word flags.BeforeMessage = codes "TPQBEFOREMSGID"
-flag_word flags.Correlation = codes "TPQCORRID"
-flag_word flags.ReplyQueue = codes "TPQREPLYQ"
-flag_word flags.FailureQueue = codes "TPQFAILUREQ"
-flag_word flags.DeliveryQuality = codes "TPQDELIVERYQOS"
-flag_word flags.ReplyQuality = codes "TPQREPLYQOS"
 flag_word flags.MessageId = codes "TPQMSGID"
-flag_word flags.GetByMessageId = codes "TPQGETBYMSGID"
-flag_word flags.GetByCorrelation = codes "TPQGETBYCORRID"
-flag_word flags.Peek = codes "TPQPEEK"
-flag_word flags.Wait = codes "TPQWAIT"
 
--- the flags that a script may name so far
+-- the flags that a script may name
 abbrev pub known_flags : List Flag
 known_flags = flags.NoFlags ∷ flags.MessageId ∷ []
 
@@ -271,18 +255,9 @@ abbrev pub key_among : List KeyRow → List ℕ → Option KeyRow
 key_among [] name = None
 key_among (row ∷ rows) name = if bytes_eq name (key_word row.key) then Some row else key_among rows name
 
+-- keys are one where they are spelt alike
 abbrev pub is_same_key : Key → Key → Bool
-is_same_key keys.Site keys.Site = true
-is_same_key keys.Dev keys.Dev = true
-is_same_key keys.Pages keys.Pages = true
-is_same_key keys.Queues keys.Queues = true
-is_same_key keys.Transactions keys.Transactions = true
-is_same_key keys.Messages keys.Messages = true
-is_same_key keys.Error keys.Error = true
-is_same_key keys.Memory keys.Memory = true
-is_same_key keys.Flags keys.Flags = true
-is_same_key keys.Data keys.Data = true
-is_same_key _ _ = false
+is_same_key one other = bytes_eq (key_word one) (key_word other)
 
 -- the rows without that key, which may be given only once
 abbrev pub rows_without : Key → List KeyRow → List KeyRow
@@ -323,80 +298,88 @@ abbrev pub value_given : Key → List Given → Option Value
 value_given key [] = None
 value_given key (g ∷ given) = if is_same_key key g.key then Some g.value else value_given key given
 
+-- What stands in the value of a key: None where it is of another kind, and where nothing was given, unless the key may be left out.
+
 abbrev pub number_in : Option Value → Option ℕ
 number_in (Some (Number n)) = Some n
 number_in _ = None
 
-abbrev pub error_in : Option Value → Option (List ℕ)
-error_in (Some (ErrorName name)) = name
+abbrev pub optional_number_in : Option Value → Option (Option ℕ)
+optional_number_in None = Some None
+optional_number_in (Some (Number n)) = Some (Some n)
+optional_number_in _ = None
+
+abbrev pub error_in : Option Value → Option (Option (List ℕ))
+error_in (Some (ErrorName name)) = Some name
 error_in _ = None
 
-abbrev pub text_in : Option Value → List ℕ
-text_in (Some (Text bytes)) = bytes
-text_in _ = []
+abbrev pub text_in : Option Value → Option (List ℕ)
+text_in (Some (Text bytes)) = Some bytes
+text_in _ = None
 
-abbrev pub flags_in : Option Value → List Flag
-flags_in (Some (Flags flags)) = flags
-flags_in _ = []
+abbrev pub flags_in : Option Value → Option (List Flag)
+flags_in None = Some []
+flags_in (Some (Flags flags)) = Some flags
+flags_in _ = None
+
+-- what is made of a value that may be missing
+abbrev pub and_then : {X Y : Type 0} → Option X → (X → Option Y) → Option Y
+and_then None rest = None
+and_then (Some x) rest = rest x
 
 abbrev pub number_given : Key → List Given → Option ℕ
 number_given key given = number_in (value_given key given)
 
--- the number of a key that has to be given
-abbrev pub number_needed : Key → List Given → ℕ
-number_needed key given = unwrap_or (number_given key given) 0
-
-abbrev pub space_creation : List ℕ → List Given → SpaceCreation
+abbrev pub space_creation : List ℕ → List Given → Option SpaceCreation
 space_creation name given =
-    record {
+    and_then (number_given keys.Dev given) (λ dev.
+    and_then (number_given keys.Pages given) (λ pages.
+    and_then (number_given keys.Queues given) (λ queues.
+    and_then (number_given keys.Transactions given) (λ transactions.
+    and_then (number_given keys.Messages given) (λ messages.
+    and_then (error_in (value_given keys.Error given)) (λ error.
+    and_then (number_given keys.Memory given) (λ memory.
+    Some (record {
       name = name;
-      dev = number_needed keys.Dev given;
-      pages = number_needed keys.Pages given;
-      queues = number_needed keys.Queues given;
-      transactions = number_needed keys.Transactions given;
-      messages = number_needed keys.Messages given;
-      error = error_in (value_given keys.Error given);
-      memory = number_needed keys.Memory given;
-    }
+      dev = dev;
+      pages = pages;
+      queues = queues;
+      transactions = transactions;
+      messages = messages;
+      error = error;
+      memory = memory;
+    }))))))))
 
-abbrev pub enqueue_words : List ℕ → List ℕ → List Given → EnqueueWords
+abbrev pub enqueue_words : List ℕ → List ℕ → List Given → Option EnqueueWords
 enqueue_words space queue given =
-    record {
-      space = space;
-      queue = queue;
-      notran = false;
-      flags = flags_in (value_given keys.Flags given);
-      prio = None;
-      deqtime = None;
-      exptime = None;
-      msgid = None;
-      corr = None;
-      replyq = None;
-      failq = None;
-      qos = None;
-      rqos = None;
-      body = text_in (value_given keys.Data given);
-    }
+    and_then (flags_in (value_given keys.Flags given)) (λ flags.
+    and_then (text_in (value_given keys.Data given)) (λ body.
+    Some (record { space = space; queue = queue; flags = flags; body = body })))
 
-abbrev pub dequeue_words : List ℕ → List ℕ → List Given → DequeueWords
-dequeue_words space queue given = record { space = space; queue = queue; notran = false; flags = flags_in (value_given keys.Flags given); msgid = None; corr = None }
+abbrev pub dequeue_words : List ℕ → List ℕ → List Given → Option DequeueWords
+dequeue_words space queue given =
+    option_map (λ flags. record { space = space; queue = queue; flags = flags }) (flags_in (value_given keys.Flags given))
 
--- what a verb with these words asks for
-abbrev pub request_of : Verb → List Value → List Given → Request
-request_of Boot [] given = BootAsked
-request_of CreateDevice (Number dev ∷ Number clusters ∷ []) given = Device (Create (record { dev = dev; clusters = clusters; site = number_given keys.Site given }))
-request_of ListDevice (Number dev ∷ []) given = Device (ListOf dev)
-request_of CreateSpace (Name name ∷ []) given = Space (space_requests.Create (space_creation name given))
-request_of CreateQueue (Name space ∷ Name queue ∷ []) given = Space (space_requests.CreateQueue (record { space = space; queue = queue }))
-request_of Enqueue (Number session ∷ Name space ∷ Name queue ∷ []) given = Call (call_requests.Enqueue session (enqueue_words space queue given))
-request_of Dequeue (Number session ∷ Name space ∷ Name queue ∷ []) given = Call (call_requests.Dequeue session (dequeue_words space queue given))
-request_of verb values given = Nothing
+abbrev pub device_creation : ℕ → ℕ → List Given → Option Creation
+device_creation dev clusters given =
+    option_map (λ site. record { dev = dev; clusters = clusters; site = site }) (optional_number_in (value_given keys.Site given))
+
+-- what a verb with these words asks for, and None where they are not of its row
+abbrev pub request_of : Verb → List Value → List Given → Option Request
+request_of Boot [] given = Some BootAsked
+request_of CreateDevice (Number dev ∷ Number clusters ∷ []) given = option_map (λ creation. Device (Create creation)) (device_creation dev clusters given)
+request_of ListDevice (Number dev ∷ []) given = Some (Device (ListOf dev))
+request_of CreateSpace (Name name ∷ []) given = option_map (λ creation. Space (space_requests.Create creation)) (space_creation name given)
+request_of CreateQueue (Name space ∷ Name queue ∷ []) given = Some (Space (space_requests.CreateQueue (record { space = space; queue = queue })))
+request_of Enqueue (Number session ∷ Name space ∷ Name queue ∷ []) given = option_map (λ words. Call (call_requests.Enqueue session words)) (enqueue_words space queue given)
+request_of Dequeue (Number session ∷ Name space ∷ Name queue ∷ []) given = option_map (λ words. Call (call_requests.Dequeue session words)) (dequeue_words space queue given)
+request_of verb values given = None
 
 -- the column behind a line of that length is where a missing word should begin
 abbrev pub scanned : ℕ → Verb → Scan → Request
 scanned size verb (Misfit column) = Bad column
 scanned size verb Missing = Bad (size + 1)
-scanned size verb (Spelt values given) = request_of verb values given
+scanned size verb (Spelt values given) = unwrap_or (request_of verb values given) (Bad (size + 1))
 
 abbrev pub verb_request : ℕ → ℕ → Option Verb → List Word → Request
 verb_request size column None words = Bad column

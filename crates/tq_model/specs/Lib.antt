@@ -5,6 +5,7 @@ pub mod Grammar
 pub mod Reading
 pub mod MachineWithFaults
 pub mod CallFlags
+pub mod CallChecks
 pub mod Space
 pub mod Room
 pub mod Moves

@@ -14,7 +14,7 @@ use Rattle.tq_model.specs.Space.{Entry, Queue, overhead_pages}
 use Rattle.tq_model.specs.Moves.{IndexedSpace, space_of}
 use Rattle.tq_model.specs.SpaceForm.{RawSpace, raw_space, shape_of, log_bytes, empty_space, replayed}
 use Rattle.tq_model.specs.DeviceForm.{RawHeader, RawEntry, RawTable, RawJournal, Decision, Journal, raw_header, raw_table, raw_journal, journal_read, header_bytes, cluster_bytes, extents_start, table_bytes, open_gate, bytes_of, first_page}
-use Rattle.tq_model.specs.Site.{Site, Volume, SpaceOnDevice, last_epoch, last_space, least_clusters, most_clusters, most_pages, header_clusters, present, spaces_on, clusters_for}
+use Rattle.tq_model.specs.Site.{Site, Volume, SpaceOnDevice, last_epoch, last_space, least_clusters, most_clusters, most_pages, most_queues, most_transactions, most_messages, most_memory, header_clusters, present, spaces_on, clusters_for}
 
 -- the numbers from zero up to n
 abbrev pub below : ℕ → List ℕ
@@ -160,10 +160,10 @@ abbrev pub page_tests : ℕ → RawSpace → List Bool
 page_tests pages r =
     bytes_eq r.mark (codes "TQSPROV1")
     ∷ (r.version == 1)
-    ∷ (nat_le 1 r.queues && nat_le r.queues 256)
-    ∷ (nat_le 1 r.messages && nat_le r.messages 8192)
-    ∷ (nat_le 1 r.transactions && nat_le r.transactions 64)
-    ∷ nat_le r.memory 16777216
+    ∷ (nat_le 1 r.queues && nat_le r.queues most_queues)
+    ∷ (nat_le 1 r.messages && nat_le r.messages most_messages)
+    ∷ (nat_le 1 r.transactions && nat_le r.transactions most_transactions)
+    ∷ nat_le r.memory most_memory
     ∷ (r.error_size == 0 || is_name r.error)
     ∷ nat_lt (overhead_pages (shape_of pages r)) pages
     ∷ []

@@ -33,6 +33,19 @@ table_entries = 16
 abbrev pub most_pages : ℕ
 most_pages = 262016
 
+abbrev pub most_queues : ℕ
+most_queues = 256
+
+abbrev pub most_transactions : ℕ
+most_transactions = 64
+
+abbrev pub most_messages : ℕ
+most_messages = 8192
+
+-- the most bytes of memory that a space may have for the bodies of messages that are not persistent
+abbrev pub most_memory : ℕ
+most_memory = 16777216
+
 -- a space in its place on a device
 pub record SpaceOnDevice : Type 0 where
   pub name : List ℕ

@@ -169,7 +169,7 @@ replayed epoch (payload ∷ payloads) s = option_and_then (replayed epoch payloa
 
 -- a space without queues
 abbrev pub empty_space : Shape → ℕ → ℕ → IndexedSpace
-empty_space shape site number = record { site = site; number = number; limits = limits_of shape; error = shape.error; queues = [] }
+empty_space shape site number = record { site = site; number = number; limits = limits_of shape; error = shape.error; queues = []; owners = [] }
 
 -- The room of the log
 

@@ -1,5 +1,5 @@
 -- One step of the serial queue machine: a request and its answer.
-use Rattle.std.specs.Prelude.{ℕ, ◌+◌, ◌-◌, ◌*◌, ◌==◌, ◌&&◌, ◌||◌, not, nat_lt, nat_le, Bool, true, false, is_some, if◌then◌else◌, List, [], length, set, map, Option, Some, None, unwrap_or, option_map}
+use Rattle.std.specs.Prelude.{ℕ, ◌+◌, ◌-◌, ◌*◌, ◌==◌, ◌&&◌, ◌||◌, not, nat_lt, nat_le, Bool, true, is_some, if◌then◌else◌, List, [], length, set, map, Option, Some, None, unwrap_or, option_map, Result, Ok, Err}
 use Rattle.std.specs.List.{list_any}
 use Rattle.tq_types.specs.declared.identifiers.Arrival.{Arrival}
 use Rattle.tq_model.specs.declared.answer.Identity.{Identity}
@@ -14,12 +14,14 @@ use Rattle.tq_model.specs.declared.answer.DeviceAnswer.TheVariants as device_ans
 use Rattle.tq_model.specs.declared.answer.SpaceAnswer.TheVariants as space_answers
 use Rattle.tq_model.specs.declared.answer.Field.{Field}
 use Rattle.tq_model.specs.declared.answer.Field.TheVariants as fields
-use Rattle.tq_model.specs.declared.calls.Place.TheVariants.{Plain}
 use Rattle.tq_model.specs.declared.calls.EnqueueCall.{EnqueueCall}
 use Rattle.tq_model.specs.declared.calls.EnqueueWords.{EnqueueWords}
+use Rattle.tq_model.specs.declared.calls.EnqueueAsk.{EnqueueAsk}
 use Rattle.tq_model.specs.declared.calls.DequeueCall.{DequeueCall}
 use Rattle.tq_model.specs.declared.calls.DequeueWords.{DequeueWords}
-use Rattle.tq_types.specs.declared.messages.AskedQos.TheVariants as asked
+use Rattle.tq_model.specs.declared.calls.DequeueAsk.{DequeueAsk}
+use Rattle.tq_model.specs.declared.calls.CallRefusal.{CallRefusal}
+use Rattle.tq_model.specs.declared.calls.CallRefusal.TheVariants.{TooLarge}
 use Rattle.tq_model.specs.declared.space.Shape.{Shape}
 use Rattle.tq_model.specs.declared.request.Request.{Request}
 use Rattle.tq_model.specs.declared.request.Request.TheVariants.{Nothing, Boot, Bad, TooLong, Device, Space as OfSpace, Call as OfCall}
@@ -32,17 +34,26 @@ use Rattle.tq_model.specs.declared.request.SpaceCreation.{SpaceCreation}
 use Rattle.tq_model.specs.declared.request.QueueCreation.{QueueCreation}
 use Rattle.tq_model.specs.declared.request.CallRequest.{CallRequest}
 use Rattle.tq_model.specs.declared.request.CallRequest.TheVariants as call_requests
-use Rattle.tq_model.specs.CallFlags.{wants_id}
+use Rattle.tq_model.specs.CallChecks.{enqueue_checked, dequeue_checked}
 use Rattle.tq_model.specs.Space.{Space, is_named, overhead_pages, new_space, queues_with}
-use Rattle.tq_model.specs.SpaceForm.{log_bytes, added_length, gone_length, made_length, longest_body, default_queue}
+use Rattle.tq_model.specs.SpaceForm.{log_bytes, added_length, gone_length, made_length, default_queue}
 use Rattle.tq_model.specs.Moves.{queue_of}
 use Rattle.tq_model.specs.EnqueueStep.{enqueue_step, enqueue_refusal}
 use Rattle.tq_model.specs.DequeueStep.{dequeue_step, dequeue_refusal}
-use Rattle.tq_model.specs.Site.{Site, Volume, SpaceOnDevice, last_epoch, last_space, least_clusters, most_clusters, most_pages, volume_of, is_created, capacity_of, durable, space_count, space_named, with_space, spaces_on, in_doubt_count, table_entries, no_entries, clusters_for, free_clusters, lowest_free, as_extents, entries_with}
+use Rattle.tq_model.specs.Site.{Site, Volume, SpaceOnDevice, last_epoch, last_space, least_clusters, most_clusters, most_pages, most_queues, most_transactions, most_messages, most_memory, volume_of, is_created, capacity_of, durable, space_count, space_named, with_space, spaces_on, in_doubt_count, table_entries, no_entries, clusters_for, free_clusters, lowest_free, as_extents, entries_with}
 
 pub record Outcome : Type 0 where
   pub site : Site
   pub answer : Answer
+
+-- refused with this answer, the site as it was
+abbrev pub refused : Site → Answer → Outcome
+refused s answer = record { site = s; answer = answer }
+
+-- an outcome, or a refusal that leaves the site as it was
+abbrev pub unless : Option Answer → Site → Outcome → Outcome
+unless (Some refusal) s granted = refused s refusal
+unless None s granted = granted
 
 -- A boot
 
@@ -88,13 +99,8 @@ creation_refusal c s =
     else (if not (nat_le 1 (site_asked c) && nat_le (site_asked c) 4294967295) then Some (device_answers.Range fields.Site)
     else None))))
 
--- refused, with the site as it was, or granted
-abbrev pub unless_refused : Option DeviceAnswer → Site → Outcome → Outcome
-unless_refused (Some refusal) s granted = record { site = s; answer = answers.Device refusal }
-unless_refused None s granted = granted
-
 abbrev pub create_device : Creation → Site → Outcome
-create_device c s = unless_refused (creation_refusal c s) s (record {
+create_device c s = unless (option_map answers.Device (creation_refusal c s)) s (record {
   site = with_new_device c s;
   answer = answers.Device (device_answers.Created (capacity_of (new_volume c.clusters)));
 })
@@ -114,10 +120,6 @@ abbrev pub device_step : Site → DeviceRequest → Outcome
 device_step s (Create c) = create_device c s
 device_step s (ListDevice dev) = record { site = s; answer = answers.Device (list_device dev s) }
 
--- refused with this answer, the site as it was
-abbrev pub refused : Site → Answer → Outcome
-refused s answer = record { site = s; answer = answer }
-
 -- Spaces
 
 abbrev pub shape_asked : SpaceCreation → Shape
@@ -130,10 +132,10 @@ is_within low high n = nat_le low n && nat_le n high
 abbrev pub field_refused : SpaceCreation → Option Field
 field_refused c =
     if not (is_within 1 most_pages c.pages) then Some fields.Pages
-    else (if not (is_within 1 256 c.queues) then Some fields.Queues
-    else (if not (is_within 1 64 c.transactions) then Some fields.Transactions
-    else (if not (is_within 1 8192 c.messages) then Some fields.Messages
-    else (if not (nat_le c.memory 16777216) then Some fields.Memory
+    else (if not (is_within 1 most_queues c.queues) then Some fields.Queues
+    else (if not (is_within 1 most_transactions c.transactions) then Some fields.Transactions
+    else (if not (is_within 1 most_messages c.messages) then Some fields.Messages
+    else (if not (nat_le c.memory most_memory) then Some fields.Memory
     else None))))
 
 abbrev pub pages_asked : SpaceCreation → SpacePages
@@ -199,11 +201,6 @@ abbrev pub space_made : SpaceCreation → Site → Option Volume → Outcome
 space_made c s None = refused s (answers.Device device_answers.NotCreated)
 space_made c s (Some v) = record { site = with_new_space c s v; answer = answers.Space (space_answers.Created (record { number = number_of c.dev v.next_space; pages = pages_asked c })) }
 
--- an outcome, or a refusal that leaves the site as it was
-abbrev pub unless : Option Answer → Site → Outcome → Outcome
-unless (Some refusal) s granted = refused s refusal
-unless None s granted = granted
-
 abbrev pub create_space : SpaceCreation → Site → Outcome
 create_space c s = unless (space_refusal c s) s (space_made c s (volume_of s c.dev))
 
@@ -259,12 +256,12 @@ with_outcome o p = record p { logged = o.logged; space = o.space }
 abbrev pub after_call : List ℕ → LoggedOutcome → Site → Outcome
 after_call name o s = record { site = take_numbers o.numbers (with_space name (with_outcome o) s); answer = o.answer }
 
-abbrev pub on_space_found : List ℕ → (ℕ → Arrival → Space → SpaceOutcome) → Site → Option SpaceOnDevice → Outcome
+abbrev pub on_space_found : List ℕ → (Space → SpaceOutcome) → Site → Option SpaceOnDevice → Outcome
 on_space_found name call s None = refused s answers.NoEntry
-on_space_found name call s (Some p) = after_call name (through_log p.pages p.logged p.space (call s.clock (next_arrival s) p.space)) s
+on_space_found name call s (Some p) = after_call name (through_log p.pages p.logged p.space (call p.space)) s
 
--- a call on the space of that name: what it comes to is made of the clock, the next arrival and the space
-abbrev pub on_space : List ℕ → (ℕ → Arrival → Space → SpaceOutcome) → Site → Outcome
+-- a call on the space of that name, by what it makes of the space
+abbrev pub on_space : List ℕ → (Space → SpaceOutcome) → Site → Outcome
 on_space name call s = on_space_found name call s (space_named name s)
 
 -- Queues
@@ -287,8 +284,8 @@ abbrev pub space_unless : Option Answer → Space → Space → Space
 space_unless (Some refusal) before after = before
 space_unless None before after = after
 
-abbrev pub queue_outcome : List ℕ → ℕ → Arrival → Space → SpaceOutcome
-queue_outcome name clock next s =
+abbrev pub queue_outcome : List ℕ → Space → SpaceOutcome
+queue_outcome name s =
     record {
       refusal = queue_refusal name s;
       answer = answers.Done;
@@ -306,62 +303,76 @@ space_step s (space_requests.CreateQueue c) = create_queue c s
 
 -- Calls
 
--- the call that words without flags of placement, time and quality make
-abbrev pub enqueue_call : EnqueueWords → ℕ → EnqueueCall
-enqueue_call w clock =
+-- the transaction of a session; no line begins one yet
+abbrev pub transaction_of : ℕ → Site → Option ℕ
+transaction_of session s = None
+
+-- how many branches of a space count without an entry; no line makes one yet
+abbrev pub heuristic_count : Site → ℕ
+heuristic_count s = 0
+
+-- what a space is asked in a session
+abbrev pub enqueue_ask : ℕ → EnqueueCall → Site → EnqueueAsk
+enqueue_ask session call s =
     record {
-      space = w.space;
-      queue = w.queue;
-      notran = w.notran;
-      want_id = wants_id w.flags;
-      place = Plain;
-      priority = 50;
-      available = clock;
-      expiration = None;
-      corr = None;
-      replyq = None;
-      failq = None;
-      qos = asked.Default;
-      reply_qos = asked.Default;
-      body = w.body;
+      call = call;
+      clock = s.clock;
+      owner = transaction_of session s;
+      transactional = is_some (transaction_of session s) && not call.notran;
+      heuristic = heuristic_count s;
+      next = next_arrival s;
     }
 
-abbrev pub dequeue_call : DequeueWords → DequeueCall
-dequeue_call w = record { space = w.space; queue = w.queue; notran = w.notran; peek = false; id = None; corr = None; asked = w.flags }
-
-abbrev pub enqueue_outcome : EnqueueWords → ℕ → Arrival → Space → SpaceOutcome
-enqueue_outcome w clock next s =
-    let call = enqueue_call w clock in
-    let step = enqueue_step s call clock next in
+abbrev pub dequeue_ask : ℕ → DequeueCall → Site → DequeueAsk
+dequeue_ask session call s =
     record {
-      refusal = option_map answers.Call (enqueue_refusal s call clock);
+      call = call;
+      clock = s.clock;
+      owner = transaction_of session s;
+      transactional = is_some (transaction_of session s) && not call.notran;
+      heuristic = heuristic_count s;
+    }
+
+abbrev pub enqueue_outcome : EnqueueAsk → Space → SpaceOutcome
+enqueue_outcome ask s =
+    let step = enqueue_step s ask in
+    record {
+      refusal = option_map answers.Call (enqueue_refusal s ask);
       answer = answers.Call step.answer;
       space = step.space;
-      size = added_length w.body;
+      size = added_length ask.call.body;
       numbers = 1;
     }
 
-abbrev pub enqueue : EnqueueWords → Site → Outcome
-enqueue w s = if nat_lt longest_body (length w.body) then refused s (answers.Invalid (length w.body)) else on_space w.space (enqueue_outcome w) s
-
-abbrev pub dequeue_outcome : DequeueWords → ℕ → Arrival → Space → SpaceOutcome
-dequeue_outcome w clock next s =
-    let call = dequeue_call w in
-    let step = dequeue_step s call clock in
+abbrev pub dequeue_outcome : DequeueAsk → Space → SpaceOutcome
+dequeue_outcome ask s =
+    let step = dequeue_step s ask in
     record {
-      refusal = option_map answers.Call (dequeue_refusal s call clock);
+      refusal = option_map answers.Call (dequeue_refusal s ask);
       answer = answers.Call step.answer;
       space = step.space;
       size = gone_length;
       numbers = 0;
     }
 
-abbrev pub dequeue : DequeueWords → Site → Outcome
-dequeue w s = on_space w.space (dequeue_outcome w) s
+-- what words are answered that make no call
+abbrev pub refusal_answer : CallRefusal → Answer
+refusal_answer (TooLarge n) = answers.Invalid n
+
+-- a call that its words make, or their refusal
+abbrev pub if_checked : {C : Type 0} → Result C CallRefusal → Site → (C → Outcome) → Outcome
+if_checked (Ok call) s does = does call
+if_checked (Err refusal) s does = refused s (refusal_answer refusal)
+
+abbrev pub enqueue : ℕ → EnqueueWords → Site → Outcome
+enqueue session w s = if_checked (enqueue_checked w s.clock) s (λ call. on_space call.space (enqueue_outcome (enqueue_ask session call s)) s)
+
+abbrev pub dequeue : ℕ → DequeueWords → Site → Outcome
+dequeue session w s = if_checked (dequeue_checked w) s (λ call. on_space call.space (dequeue_outcome (dequeue_ask session call s)) s)
 
 abbrev pub call_step : Site → CallRequest → Outcome
-call_step s (call_requests.Enqueue session w) = enqueue w s
-call_step s (call_requests.Dequeue session w) = dequeue w s
+call_step s (call_requests.Enqueue session w) = enqueue session w s
+call_step s (call_requests.Dequeue session w) = dequeue session w s
 
 -- One step.
 abbrev pub step : Site → Request → Outcome

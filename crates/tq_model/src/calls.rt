@@ -20,42 +20,8 @@ pub enum Place {
 pub enum Flag {
     /// `TPNOFLAGS`
     NoFlags,
-    /// `TPQPRIORITY`
-    Priority,
-    /// `TPQTIME_ABS`
-    TimeAbsolute,
-    /// `TPQTIME_REL`
-    TimeRelative,
-    /// `TPQEXPTIME_ABS`
-    ExpirationAbsolute,
-    /// `TPQEXPTIME_REL`
-    ExpirationRelative,
-    /// `TPQEXPTIME_NONE`
-    ExpirationNone,
-    /// `TPQTOP`
-    Top,
-    /// `TPQBEFOREMSGID`
-    BeforeMessage,
-    /// `TPQCORRID`
-    Correlation,
-    /// `TPQREPLYQ`
-    ReplyQueue,
-    /// `TPQFAILUREQ`
-    FailureQueue,
-    /// `TPQDELIVERYQOS`
-    DeliveryQuality,
-    /// `TPQREPLYQOS`
-    ReplyQuality,
     /// `TPQMSGID`
     MessageId,
-    /// `TPQGETBYMSGID`
-    GetByMessageId,
-    /// `TPQGETBYCORRID`
-    GetByCorrelation,
-    /// `TPQPEEK`
-    Peek,
-    /// `TPQWAIT`
-    Wait,
 }
 
 /// The flags of a call, as they were written.
@@ -138,17 +104,7 @@ fn asks_for_id(flag: &Flag) -> bool
 pub struct EnqueueWords {
     pub space: Name,
     pub queue: Name,
-    pub notran: bool,
     pub flags: Flags,
-    pub prio: Option<u64>,
-    pub deqtime: Option<u64>,
-    pub exptime: Option<u64>,
-    pub msgid: Option<MsgId>,
-    pub corr: Option<CorrId>,
-    pub replyq: Option<Name>,
-    pub failq: Option<Name>,
-    pub qos: Option<AskedQos>,
-    pub rqos: Option<AskedQos>,
     pub body: Body,
 }
 
@@ -177,10 +133,14 @@ pub struct EnqueueCall {
 pub struct DequeueWords {
     pub space: Name,
     pub queue: Name,
-    pub notran: bool,
     pub flags: Flags,
-    pub msgid: Option<MsgId>,
-    pub corr: Option<CorrId>,
+}
+
+/// Why words make no call.
+#[derive(Clone, Copy, Debug, PartialEq, Eq)]
+pub enum CallRefusal {
+    /// The body has so many bytes, more than 65,536.
+    TooLarge(u64),
 }
 
 /// A dequeue whose flags and fields are checked.

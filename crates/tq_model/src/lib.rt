@@ -6,6 +6,7 @@
 mod answer;
 mod calls;
 mod grammar;
+mod limits;
 mod names;
 mod record;
 mod request;
@@ -17,10 +18,14 @@ pub use answer::{
     LogRoom, NewSpace, Readiness, SpaceAnswer, SpaceLine, SpaceLines, SpacePages,
 };
 pub use calls::{
-    CallAnswer, Delivery, DequeueAsk, DequeueCall, DequeueWords, EnqueueAsk, EnqueueCall,
-    EnqueueWords, Flag, Flags, Place,
+    CallAnswer, CallRefusal, Delivery, DequeueAsk, DequeueCall, DequeueWords, EnqueueAsk,
+    EnqueueCall, EnqueueWords, Flag, Flags, Place,
 };
 pub use grammar::{Key, Kind, Value, Verb};
+pub use limits::{
+    CLUSTER_BYTES, HEADER_BYTES, LAST_SPACE, LEAST_CLUSTERS, LONGEST_BODY, MOST_CLUSTERS,
+    MOST_MEMORY, MOST_MESSAGES, MOST_PAGES, MOST_QUEUES, MOST_TRANSACTIONS,
+};
 pub use names::name_in;
 pub use record::SpaceRecord;
 pub use request::{

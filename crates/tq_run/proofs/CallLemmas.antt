@@ -1,6 +1,6 @@
 -- What a call on a space and its log comes to, and what a stop leaves within it.
 use Rattle.std.proofs.Common.{◌≡◌, inl, inr, ⊎_elim, ◌<◌, ◌≤◌, ℕ, ◌+◌, List, [], ◌∷◌, length, drop, Option, Some, None, Bool, refl, sym, ◌∙◌, ap, subst, arith, add-zero}
-use Rattle.std.specs.Prelude.{if◌then◌else◌, nat_lt}
+use Rattle.std.specs.Prelude.{if◌then◌else◌}
 use Rattle.std.specs.Option.{option_and_then, option_map}
 use Rattle.std.proofs.lemmas.Option.{same_Some}
 use Rattle.std.proofs.lemmas.List.{length-take}
@@ -142,6 +142,13 @@ module _ (f : SpaceFile) (next : Arrival) (c : SpaceOutcome) where
           logged = new_log ∙ ap (λ (k : ℕ). logged_in f + (5 + k)) is.durable.size ∙ ap (λ (x : LoggedOutcome). x.logged) (sym outcome);
           newer = λ newer. subst (λ (k : ℕ). IsNewer next.epoch k (held_in f')) (ap (λ (x : LoggedOutcome). next.number + x.numbers) (sym outcome)) (subst (λ (x : IndexedSpace). IsNewer next.epoch (next.number + c.numbers) x) (sym new_space) (is.durable.newer newer));
         }
+
+    -- where the log has room, the call takes some of it
+    pub takes_some : logged_in f + (size_of plan + 6) ≤ log_bytes (place_in f).pages → o.logged ≡ logged_in f → ⊥
+    takes_some fits same =
+        let outcome = granted_outcome (subst (λ (k : ℕ). logged_in f + (k + 6) ≤ log_bytes (place_in f).pages) is.durable.size fits) in
+        let more : logged_in f + (5 + c.size) ≡ logged_in f = ap (λ (x : LoggedOutcome). x.logged) (sym outcome) ∙ same in
+        omega arith
 
     -- an image with the record has what the call comes to
     has_outcome : (image : List ℕ) → HasSpace (place_in f) next.epoch (plan_applied plan (held_in f)) (logged_in f + (5 + size_of plan)) image → HasOutcome f next.epoch o image

@@ -1,28 +1,28 @@
 -- A call on the space of a device: the machine's site after it, and what the device has then.
-use Rattle.std.proofs.Common.{◌≡◌, inl, inr, ⊎_elim, ◌≤◌, ℕ, ◌+◌, List, [], ◌∷◌, ◌++◌, Option, Some, None, Bool, true, false, cond, refl, sym, ◌∙◌, ap, subst, arith}
-use Rattle.std.specs.Prelude.{if◌then◌else◌, ◌==◌, ◌&&◌, ◌||◌, is_some}
+use Rattle.std.proofs.Common.{◌≡◌, inl, inr, ⊎_elim, ◌≤◌, ℕ, ◌+◌, List, Option, Some, None, Bool, true, false, cond, get_or, refl, sym, ◌∙◌, ap, subst, arith}
+use Rattle.std.specs.Prelude.{if◌then◌else◌, is_some}
 use Rattle.std.specs.Str.{bytes_eq}
-use Rattle.tq_host.specs.View.{View}
-use Rattle.tq_host.proofs.Within.{wider}
-use Rattle.tq_host.specs.Within.{Within}
+use Rattle.tq_host.specs.View.{View, Images}
+use Rattle.tq_host.proofs.AllDevices.{of_one}
+use Rattle.tq_host.specs.Within.{Within, WithinAll}
 use Rattle.tq_types.specs.declared.identifiers.Arrival.{Arrival}
 use Rattle.tq_model.specs.Space.{Space}
 use Rattle.tq_model.specs.Moves.{IndexedSpace, space_of}
 use Rattle.tq_model.specs.Parts.{IsPart}
 use Rattle.tq_model.specs.Plain.{IsNewer}
-use Rattle.tq_model.specs.Site.{Site, SpaceOnDevice, space_named, has_name, with_space}
+use Rattle.tq_model.specs.Site.{Site, Volume, SpaceOnDevice, volume_of, space_named, has_name, with_space, durable}
 use Rattle.tq_model.specs.Step.{Outcome, SpaceOutcome, LoggedOutcome, through_log, with_outcome, take_numbers, on_space_found, on_space, next_arrival}
 use Rattle.tq_device.specs.declared.content.DeviceContent.{DeviceContent}
 use Rattle.tq_device.specs.declared.content.NamedSpace.{NamedSpace}
-use Rattle.tq_device.proofs.Offered.{some_epoch}
-use Rattle.tq_device.specs.Content.{HasContent, IsAnyStep, part_of}
+use Rattle.tq_device.proofs.ForCallers.{some_epoch}
+use Rattle.tq_device.specs.Content.{HasContent, part_of}
 use Rattle.tq_spacefile.specs.declared.place.SpacePlace.{SpacePlace}
 use Rattle.tq_spacefile.specs.declared.file.SpaceFile.{SpaceFile}
 use Rattle.tq_spacefile.specs.File.{place_in, held_in, logged_in, HasSpace, IsFile, AreFile, IsSameButSpace}
 use Rattle.tq_run.specs.declared.site.Manager.{Manager}
 use Rattle.tq_run.specs.Manager.{site_of, site_with, site_at, placed_of, placed_in, IsSpaceOn, IsFileOn, IsDeviceOn, IsContentOn, ImageMatches}
 use Rattle.tq_run.specs.Together.{place_of, IsFileOf, IsTogether}
-use Rattle.tq_run.specs.Stops.{HasSite, IsEither, ImagesMatch}
+use Rattle.tq_run.specs.Stops.{ImagesHave, AreEither, ImagesMatch}
 use Rattle.tq_run.specs.declared.planning.SpaceCall.{SpaceCall}
 use Rattle.tq_run.specs.declared.planning.SpaceCall.TheVariants.{Enqueue, Dequeue, CreateQueue}
 use Rattle.tq_run.specs.declared.calls.Reply.{Reply}
@@ -30,7 +30,7 @@ use Rattle.tq_run.specs.SpaceCalls.{outcome_of, space_name, numbers_asked}
 use Rattle.tq_run.specs.Calls.{outcome_in, logged_outcome_in, IsCalled, IsSameOrChanged, HasOutcome, AreBehind}
 use Rattle.tq_run.specs.Serving.{IsServed}
 use Rattle.tq_run.proofs.FoundLemmas.{part_of_stands, image_at}
-use Rattle.tq_device.proofs.Offered.{below_stands}
+use Rattle.tq_device.proofs.ForCallers.{below_stands}
 
 -- ---- the space that is named
 
@@ -105,20 +105,32 @@ module _ (d : DeviceContent) (p : SpaceOnDevice) (next : ℕ) (name : List ℕ) 
   changed_at change = ap (λ (b : Bool). site_at d (Some (if b then change p else p)) next) same
 
 -- a call on the one space of a device
-on_space_at : (d : DeviceContent) (p : SpaceOnDevice) (next : ℕ) (name : List ℕ) (call : ℕ → Arrival → Space → SpaceOutcome) → has_name name p ≡ true
+on_space_at : (d : DeviceContent) (p : SpaceOnDevice) (next : ℕ) (name : List ℕ) (call : Space → SpaceOutcome) → has_name name p ≡ true
     → on_space name call (site_at d (Some p) next)
-    ≡ (let o = through_log p.pages p.logged p.space (call 0 (record { epoch = d.epoch; number = next }) p.space) in
+    ≡ (let o = through_log p.pages p.logged p.space (call p.space) in
     let outcome : Outcome = record { site = site_at d (Some (with_outcome o p)) (next + o.numbers); answer = o.answer } in outcome)
 on_space_at d p next name call same =
-    let o : LoggedOutcome = through_log p.pages p.logged p.space (call 0 (record { epoch = d.epoch; number = next }) p.space) in
+    let o : LoggedOutcome = through_log p.pages p.logged p.space (call p.space) in
     ap (on_space_found name call (site_at d (Some p) next)) (named_at d p next name same)
     ∙ ap (λ (x : Site). let outcome : Outcome = record { site = take_numbers o.numbers x; answer = o.answer } in outcome) (changed_at d p next name same (with_outcome o))
 
 -- the numbers that are asked for
-pub numbers_are : (call : SpaceCall) (clock : ℕ) (next : Arrival) (s : Space) → numbers_asked call ≡ (outcome_of call clock next s).numbers
-numbers_are (Enqueue w) clock next s = refl
-numbers_are (Dequeue w) clock next s = refl
-numbers_are (CreateQueue c) clock next s = refl
+pub numbers_are : (call : SpaceCall) (s : Space) → numbers_asked call ≡ (outcome_of call s).numbers
+numbers_are (Enqueue ask) s = refl
+numbers_are (Dequeue ask) s = refl
+numbers_are (CreateQueue c) s = refl
+
+-- the bytes that are taken of the log of a device's first space
+abbrev logged_of : Option SpaceOnDevice → ℕ
+logged_of None = 0
+logged_of (Some p) = p.logged
+
+abbrev logged_on : Option Volume → ℕ
+logged_on None = 0
+logged_on (Some v) = logged_of (get_or v.entries 0 None)
+
+abbrev first_logged : Site → ℕ
+first_logged s = logged_on (volume_of s 0)
 
 -- ---- a call on the space of the manager
 
@@ -131,7 +143,7 @@ module _ (m : Manager) (call : SpaceCall) (f : SpaceFile) (file : m.file ≡ Som
 
   -- what it comes to, and as the machine's step
   abbrev o : LoggedOutcome
-  o = logged_outcome_in f (outcome_in f call next)
+  o = logged_outcome_in f (outcome_in f call)
 
   abbrev step : Outcome
   step = on_space (space_name call) (outcome_of call) (site_of m)
@@ -162,7 +174,7 @@ module _ (m : Manager) (call : SpaceCall) (f : SpaceFile) (file : m.file ≡ Som
   -- the step, of a place and an arrival
   abbrev after : SpacePlace → Arrival → Outcome
   after p x =
-      let out = through_log p.pages (logged_in f) (space_of (held_in f)) (outcome_in f call x) in
+      let out = through_log p.pages (logged_in f) (space_of (held_in f)) (outcome_in f call) in
       record { site = site_at d (Some (with_outcome out (placed_of n f))) (x.number + out.numbers); answer = out.answer }
 
   made : step ≡ after (place_in f) next
@@ -170,25 +182,29 @@ module _ (m : Manager) (call : SpaceCall) (f : SpaceFile) (file : m.file ≡ Som
       ap (on_space (space_name call) (outcome_of call)) known ∙ on_space_at d (placed_of n f) m.next (space_name call) (outcome_of call) at.same
       ∙ λ i. after (sym place i) (sym arrival_is i)
 
+  -- a step that changes nothing that lasts takes nothing of the log
+  pub takes_nothing : durable step.site ≡ durable (site_of m) → o.logged ≡ logged_in f
+  takes_nothing same = ap (λ (x : Outcome). first_logged (durable x.site)) (sym made) ∙ ap first_logged same ∙ ap (λ (x : Site). first_logged (durable x)) known
+
   -- the images within it
-  pub within_call : (a b : View) → ImagesMatch m a → Within 0 IsSameButSpace (IsSameOrChanged f next o) a b → Within 0 IsAnyStep (IsEither (site_of m) step.site) a b
-  within_call a b on within = wider 0 IsSameButSpace IsAnyStep (IsSameOrChanged f next o) (IsEither (site_of m) step.site) a b (λ i c was same has. (tt, either i c (on i was) same has)) within
+  pub within_call : (a b : View) → ImagesMatch m a → Within 0 IsSameButSpace (IsSameOrChanged f next o) a b → WithinAll (AreEither (site_of m) step.site) a b
+  within_call a b on within = of_one 0 IsSameButSpace (IsSameOrChanged f next o) (AreEither (site_of m) step.site) a b (λ i images was same has. either i images (on i was) same has) within
     where
       at_place : (held : IndexedSpace) (logged : ℕ) (c : List ℕ) → HasSpace (place_in f) next.epoch held logged c → HasSpace (place_of d n) d.epoch held logged c
       at_place held logged c has = subst (λ (k : ℕ). HasSpace (place_of d n) k held logged c) epoch_is (subst (λ (p : SpacePlace). HasSpace p next.epoch held logged c) place has)
 
-      changed : (c : List ℕ) → IsPart (part_of d) c → HasOutcome f next.epoch o c → HasSite step.site c
-      changed c part new =
-          subst (λ (s : Site). HasSite s c)
+      changed : (images : Images) → IsPart (part_of d) (images 0) → HasOutcome f next.epoch o (images 0) → ImagesHave step.site images
+      changed images part new =
+          subst (λ (s : Site). ImagesHave s images)
           (ap (λ (x : Space). site_at d (Some (record (placed_of n f) { logged = o.logged; space = x })) (next.number + o.numbers)) new.space ∙ sym (ap (λ (x : Outcome). x.site) made))
-          (image_at d n new.held o.logged (next.number + o.numbers) c part at.named new.lasts (at_place new.held o.logged c new.has))
+          (image_at d n new.held o.logged (next.number + o.numbers) images part at.named new.lasts (at_place new.held o.logged (images 0) new.has))
 
-      either : (i c : List ℕ) → ImageMatches m i → IsSameButSpace i c → IsSameOrChanged f next o c → IsEither (site_of m) step.site c
-      either i c on same has =
-          let part : IsPart (part_of d) c = part_of_stands d c (below_stands d i c same.size same.bytes (stands_on m d n f at.content at.named file i on)) in
+      either : (i : List ℕ) (images : Images) → ImageMatches m i → IsSameButSpace i (images 0) → IsSameOrChanged f next o (images 0) → AreEither (site_of m) step.site images
+      either i images on same has =
+          let part : IsPart (part_of d) (images 0) = part_of_stands d (images 0) (below_stands d i (images 0) same.size same.bytes (stands_on m d n f at.content at.named file i on)) in
           ⊎_elim
-          (λ old. inl (subst (λ (s : Site). HasSite s c) (sym known) (image_at d n (held_in f) (logged_in f) m.next c part at.named f.plain (at_place (held_in f) (logged_in f) c old))))
-          (λ new. inr (changed c part new)) has
+          (λ old. inl (subst (λ (s : Site). ImagesHave s images) (sym known) (image_at d n (held_in f) (logged_in f) m.next images part at.named f.plain (at_place (held_in f) (logged_in f) (images 0) old))))
+          (λ new. inr (changed images part new)) has
 
   -- the manager after the call, with the file as the call left it
   pub after_call : (f' : SpaceFile) (r : Reply) → IsCalled f f' next o r → place_in f' ≡ place_in f → r.numbers ≤ 1 → (m' : Manager) → m'.content ≡ m.content → m'.file ≡ Some f' → m'.next ≡ m.next + r.numbers

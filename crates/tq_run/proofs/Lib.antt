@@ -3,7 +3,6 @@ pub mod CountLemmas
 pub mod RunDeviceLemmas
 pub mod PictureLemmas
 pub mod DeviceStopLemmas
-pub mod LoadLemmas
 pub mod SpaceCreationLemmas
 pub mod BootStopLemmas
 pub mod BootTurnLemmas
@@ -14,6 +13,7 @@ pub mod FailureAccountLemmas
 pub mod TurnLemmas
 pub mod RespondLemmas
 pub mod LeftAloneLemmas
+pub mod IdleLemmas
 pub mod LineByLineLemmas
 pub mod Line0Lemmas
 pub mod StatusLemmas

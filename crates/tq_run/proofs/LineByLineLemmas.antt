@@ -2,26 +2,32 @@
 use Rattle.std.proofs.Common.{◌≡◌, ◌≤◌, ℕ, ◌+◌, ◌-◌, List, [], ◌∷◌, ◌++◌, Some, refl, sym, ◌∙◌, ap, subst, arith, length, take, append_assoc, length-append}
 use Rattle.std.specs.Prelude.{map, replicate}
 use Rattle.std.proofs.lemmas.List.{append-nil, append_cancel_left, take-append-le}
-use Rattle.tq_host.specs.View.{View, Stamp, Picture, Streams, Told, TellsAll, IsLawful, IsSettled, stamp_now}
-use Rattle.tq_host.specs.Calls.{IsGiven, IsGiving}
+use Rattle.tq_host.specs.View.{View, Stamp, Picture, Streams, Told, TellsAll, IsLawful, AreSettled, stamp_now}
+use Rattle.tq_host.specs.Calls.{IsGiven, IsGiving, next_count}
 use Rattle.tq_host.specs.Within.{Ran}
-use Rattle.tq_host.proofs.Running.{ran_on, ran_start, ran_weaker, each}
+use Rattle.tq_host.proofs.RunLemmas.{ran_on, ran_start, ran_weaker, each}
 use Rattle.tq_model.specs.declared.answer.Answer.{Answer}
 use Rattle.tq_model.specs.declared.request.Request.{Request}
 use Rattle.tq_model.specs.Site.{Site}
 use Rattle.tq_model.specs.Text.{line_text}
 use Rattle.tq_model.specs.Grammar.{script_lines, script_requests, line_request}
-use Rattle.tq_model.specs.Reading.{reading, combined, site_in, site_found}
+use Rattle.tq_model.specs.Reading.{site_found}
 use Rattle.tq_model.specs.declared.request.Request.TheVariants.{Boot}
-use Rattle.tq_model.specs.MachineWithFaults.{Condition, Up, Down, Failures, Turn, turn_at, found_at, HaveCondition}
+use Rattle.tq_model.specs.MachineWithFaults.{Condition, Failures, Turn, turn_at, found_at, HaveCondition}
 use Rattle.tq_run.specs.declared.state.State.{State}
+use Rattle.tq_run.specs.Input.{TakesOnly}
 use Rattle.tq_run.specs.Output.{TellsMore}
 use Rattle.tq_run.specs.Stops.{HasNoNewImage, IsWaiting, IsOfRun, IsCrashSafe}
 use Rattle.tq_run.specs.Ending.{IsDone, trace_of}
-use Rattle.tq_run.specs.Turns.{Origin, origin_of, none_failed, HasCondition, IsOfLines, GoesOn, RunsOver, turn_between, trace_from, told_after}
+use Rattle.tq_run.specs.Turns.{Origin, origin_of, none_failed, IsOfLines, GoesOn, IsAnswered, RunsOver, turn_between, trace_from, told_after}
 use Rattle.tq_run.specs.Standing.{StateMatches, HasTurned, IsTurning, HasReached, HasRun, HasStarted}
+use Rattle.tq_model.proofs.LineText.{length-line_text}
+use Rattle.tq_run.specs.Words.{device_count}
+use Rattle.tq_run.specs.Idle.{AreIdleLines, clock_at}
+use Rattle.tq_run.proofs.RunDeviceLemmas.{same_found}
 use Rattle.tq_run.proofs.BootStopLemmas.{read_stands}
-use Rattle.tq_run.proofs.TurnLemmas.{starts_answered, turn_told, still_answered, ran_more, of_answered_more, only_done, line_since, line_on, line_stamps, line_failures, line_pictures, line_answered}
+use Rattle.tq_run.proofs.IdleLemmas.{idle_few, idle_next, last_clock}
+use Rattle.tq_run.proofs.TurnLemmas.{starts_answered, turn_told, still_answered, ran_more, of_answered_more, only_done, line_over, line_answered}
 use Rattle.tq_run.proofs.RespondLemmas.{images_in, still_in}
 
 module _ (o : Origin) (found : Site) (failed : Failures) (done : List Request) (r : Request) (state : State) (a b : View) (reached : HasReached o found failed done state a) where
@@ -48,33 +54,43 @@ module _ (o : Origin) (found : Site) (failed : Failures) (done : List Request) (
       given_text : IsGiven k (line_text (length done) t.answer) b d
       given_text = subst (λ (l : List ℕ). IsGiven k l b d) is_text given
 
-      pictures : Ran (IsOfLines o d found (line_since reached.answered r t streams turned.failed turned.cause told same given_text) (done ++ r ∷ [])) a d
-      pictures =
-          line_pictures reached.answered r t streams turned.failed turned.cause told same given_text (turned.within reached.condition reached.is) (λ image may. images_in state' t.condition b image is_in may) none
+      abbrev over : RunsOver o found failed (done ++ r ∷ []) a d
+      over = line_over reached.answered r t streams turned.failed turned.cause told same given_text (turned.within reached.condition reached.is) (images_in state' t.condition b is_in) none
           (subst (λ (l : List ℕ). Ran (IsGiving l b d) b d) is_text gives)
 
       pub given_line : RunsOver o found failed (done ++ r ∷ []) a d
-      given_line = record {
-        since = line_since reached.answered r t streams turned.failed turned.cause told same given_text;
-        on = line_on reached.answered r t streams turned.failed turned.cause told same given_text;
-        added = reached.answered.added ++ replicate k (stamp_now b);
-        stamps = line_stamps reached.answered r t streams turned.failed turned.cause told same given_text;
-        failures = line_failures reached.answered r t streams turned.failed turned.cause told same given_text;
-        ran = pictures;
-      }
+      given_line = over
 
-      pub line_run : k ≡ length (line_text (length done) answer) → d.reads 0 ≡ b.reads 0 → HasRun o found failed (done ++ r ∷ []) state' a d
-      line_run whole reads = record {
-        since = line_since reached.answered r t streams turned.failed turned.cause told same given_text;
-        on = line_on reached.answered r t streams turned.failed turned.cause told same given_text;
-        reached = record {
-          condition = t.condition;
-          answered = line_answered reached.answered r t streams turned.failed turned.cause told same given_text (whole ∙ ap (λ (l : List ℕ). length l) is_text) (ap (λ (i : List ℕ). site_in (combined (reading 0 i ∷ []))) reads);
-          is = still_in state' t.condition b d none is_in;
-          some = omega (arith, length-append done (r ∷ []));
-        };
-        ran = pictures;
-      }
+      pub line_run : k ≡ length (line_text (length done) answer) → d.reads 0 ≡ b.reads 0 → d.clock ≡ next_count b.clock → HasRun o found failed (done ++ r ∷ []) state' a d
+      line_run whole reads clock =
+          let some : 1 ≤ k = omega (arith, whole, length-line_text (length done) answer) in
+          let stamps : d.streams.stamps ≡ a.streams.stamps ++ replicate k (stamp_now b) = given.stamps ∙ ap (λ (s : Streams). s.stamps ++ replicate k (stamp_now b)) streams in
+          let answered : IsAnswered o d found over.since (done ++ r ∷ []) t.condition
+          = line_answered reached.answered r t streams turned.failed turned.cause told same given_text (whole ∙ ap (λ (l : List ℕ). length l) is_text) (same_found d.reads b.reads reads) in
+          let bytes : reached.answered.added ++ replicate k (stamp_now b) ≡ answered.added
+          = append_cancel_left o.stamps (reached.answered.added ++ replicate k (stamp_now b)) answered.added (sym over.stamps ∙ answered.stamps) in
+          record {
+            since = over.since;
+            on = over.on;
+            reached = record {
+              condition = t.condition;
+              answered = answered;
+              is = still_in state' t.condition b d none is_in;
+              some = omega (arith, length-append done (r ∷ []));
+              idle = subst (λ (l : List Stamp). AreIdleLines o d.faults l over.since found (done ++ r ∷ [])) bytes (idle_next reached d k (stamp_now b) some stamps over.since over.on r (turned.idle reached.condition reached.is));
+              clock = λ long. clock ∙ ap next_count (sym (subst (λ (l : List Stamp). clock_at l (length l - 1) ≡ b.clock) bytes (last_clock reached d k (stamp_now b) some stamps over.since over.on)));
+            };
+            ran = over.ran;
+          }
+
+pub tells_on : (a b c : View) → TellsMore a b → TellsMore b c → TellsMore a c
+tells_on a b c first second = (first.0 ++ second.0, second.1 ∙ ap (λ (l : List Stamp). l ++ second.0) first.1 ∙ append_assoc a.streams.stamps first.0 second.0)
+
+pub tells_none : (a b : View) → b.streams.stamps ≡ a.streams.stamps → TellsMore a b
+tells_none a b same = ([], same ∙ sym (append-nil a.streams.stamps))
+
+pub tells_given : (a b d : View) → b.streams ≡ a.streams → (k : ℕ) (bytes : List ℕ) → IsGiven k bytes b d → TellsMore a d
+tells_given a b d streams k bytes given = tells_on a b d (tells_none a b (ap (λ (s : Streams). s.stamps) streams)) (_, given.stamps)
 
 -- Parts in a row
 
@@ -97,7 +113,7 @@ of_front o now found failed done rest p is =
       stamps = is.stamps;
       lines = is.lines;
       within = omega (arith, is.within, length-append done rest);
-      stand = subst (λ (l : List Request). HaveCondition 1 p.images (told_after o now.faults is.added failed found l).condition) (sym front) is.stand;
+      stand = subst (λ (l : List Request). HaveCondition device_count p.images (told_after o now.faults is.added failed found l).condition) (sym front) is.stand;
       given = is.given;
       gave = is.gave ∙ ap (λ (l : List Request). o.output ++ take is.given (told_after o now.faults is.added failed found l).text) (sym front);
       answered = subst (λ (l : List Request). length (told_after o now.faults is.added failed found l).text ≤ is.given) (sym less) is.answered;
@@ -151,7 +167,7 @@ module _ (o : Origin) (found : Site) (failed : Failures) (done more : List Reque
   }
 
 -- the first line, where nothing was pending when it began
-pub run_started : (a b : View) (found : Site) (state : State) → IsSettled 0 a → HasStarted found state a b → HasRun (origin_of a) found none_failed (Boot ∷ []) state a b
+pub run_started : (a b : View) (found : Site) (state : State) → AreSettled device_count a → HasStarted found state a b → HasRun (origin_of a) found none_failed (Boot ∷ []) state a b
 run_started a b found state settled started = record {
   since = started.failed;
   on = λ at lt. absurd (omega (arith, lt));
@@ -213,37 +229,34 @@ module _ (o : Origin) (found : Site) (failed : Failures) (first : Request) (all 
 pub all_run : (o : Origin) (found : Site) (failed : Failures) (first : Request) (all : List Request) (number : ℕ) (state : State) (start now : View) → IsSoFar o found failed first all [] number state start now → HasRun o found failed (first ∷ all) state start now
 all_run o found failed first all number state start now so_far = subst (λ (l : List Request). HasRun o found failed (first ∷ l) state start now) (sym (append-nil so_far.done) ∙ so_far.joined) so_far.run
 
--- While nothing is done
+-- While the script is read
 
-pub waiting_reached : (o : Origin) (found : Site) (failed : Failures) (done : List Request) (state : State) (a b : View) → HasReached o found failed done state a → HasNoNewImage a b → b.streams.output ≡ a.streams.output → b.streams.stamps ≡ a.streams.stamps
-    → b.faults ≡ a.faults → b.reads 0 ≡ a.reads 0 → HasReached o found failed done state b
-waiting_reached o found failed done state a b reached none output stamps faults reads = record {
-  condition = reached.condition;
-  answered = still_answered reached.answered b output stamps faults (ap (λ (i : List ℕ). site_in (combined (reading 0 i ∷ []))) reads);
-  is = still_in state reached.condition a b none reached.is;
-  some = reached.some;
-}
+module _ (o : Origin) (found : Site) (failed : Failures) (first : Request) (state : State) (a b : View) (reached : HasReached o found failed (first ∷ []) state a)
+    (none : HasNoNewImage a b) (still : TakesOnly a b) (faults : b.faults ≡ a.faults) (waits : Ran (IsWaiting a) a b) where
+  -- the first line, with a part in which nothing is done behind it
+  pub waiting_run : HasRun o found failed (first ∷ []) state a b
+  waiting_run = record {
+    since = failed;
+    on = on_none o a failed;
+    reached = record {
+      condition = reached.condition;
+      answered = still_answered reached.answered b still.output still.stamps faults (same_found b.reads a.reads (still.reads 0));
+      is = still_in state reached.condition a b none reached.is;
+      some = omega arith;
+      idle = idle_few o b.faults _ failed found (first ∷ []) (omega arith);
+      clock = λ long. absurd (omega (arith, long));
+    };
+    ran = ran_weaker (IsWaiting a) (IsOfLines o b found failed (first ∷ [])) a b
+        (λ p w. of_answered_more reached.answered b [] (still.stamps ∙ sym (append-nil a.streams.stamps)) failed (on_none o a failed) [] p (images_in state reached.condition a reached.is p.images w.images) w.output) waits;
+  }
 
--- the run so far, with a part in which nothing is done behind it
-pub waiting_run : (o : Origin) (found : Site) (failed : Failures) (done : List Request) (state : State) (a b : View) → HasReached o found failed done state a → HasNoNewImage a b → b.streams.output ≡ a.streams.output → b.streams.stamps ≡ a.streams.stamps
-    → b.faults ≡ a.faults → b.reads 0 ≡ a.reads 0 → Ran (IsWaiting a) a b → HasRun o found failed done state a b
-waiting_run o found failed done state a b reached none output stamps faults reads waits = record {
-  since = failed;
-  on = on_none o a failed;
-  reached = waiting_reached o found failed done state a b reached none output stamps faults reads;
-  ran = ran_weaker (IsWaiting a) (IsOfLines o b found failed done) a b
-      (λ p w. subst (λ (l : List Request). IsOfLines o b found failed l p) (append-nil done)
-      (of_answered_more reached.answered b [] (stamps ∙ sym (append-nil a.streams.stamps)) failed (on_none o a failed) [] p (images_in state reached.condition a (p.images 0) reached.is (w.images 0)) w.output)) waits;
-}
+  -- and then its lines are answered
+  module _ (d : View) (more : TellsMore b d) (requests : List Request) where
+    pub read_over : ((since : Failures) → HasReached o found since (first ∷ []) state b → RunsOver o found since (first ∷ requests) b d) → RunsOver o found failed (first ∷ requests) a d
+    read_over over = then_over o found failed (first ∷ []) requests state a b d waiting_run more (tells_none a b still.stamps) (over waiting_run.since waiting_run.reached)
 
-pub tells_on : (a b c : View) → TellsMore a b → TellsMore b c → TellsMore a c
-tells_on a b c first second = (first.0 ++ second.0, second.1 ∙ ap (λ (l : List Stamp). l ++ second.0) first.1 ∙ append_assoc a.streams.stamps first.0 second.0)
-
-pub tells_none : (a b : View) → b.streams.stamps ≡ a.streams.stamps → TellsMore a b
-tells_none a b same = ([], same ∙ sym (append-nil a.streams.stamps))
-
-pub tells_given : (a b d : View) → b.streams ≡ a.streams → (k : ℕ) (bytes : List ℕ) → IsGiven k bytes b d → TellsMore a d
-tells_given a b d streams k bytes given = tells_on a b d (tells_none a b (ap (λ (s : Streams). s.stamps) streams)) (_, given.stamps)
+    pub read_run : (state' : State) → ((since : Failures) → HasReached o found since (first ∷ []) state b → HasRun o found since (first ∷ requests) state' b d) → HasRun o found failed (first ∷ requests) state' a d
+    read_run state' run = then_run o found failed (first ∷ []) requests state a b d waiting_run more (tells_none a b still.stamps) state' (run waiting_run.since waiting_run.reached)
 
 -- The whole run
 
@@ -256,15 +269,11 @@ is_done start now found failed state lawful t left reached = record {
   failures = reached.answered.failures;
   script = left;
   output = reached.answered.output;
-  devices = subst (λ (c : Condition). HaveCondition 1 now.reads c) (sym reached.answered.condition)
-      (as_read now.reads reached.condition (images_in state reached.condition now (now.reads 0) reached.is (lawful.reads_an_image t.stops 0)));
+  devices = subst (λ (c : Condition). HaveCondition device_count now.reads c) (sym reached.answered.condition) (images_in state reached.condition now reached.is now.reads (lawful.reads_an_image t.stops));
+  idle = reached.idle;
 }
-  where
-    as_read : (images : ℕ → List ℕ) (c : Condition) → HasCondition c (images 0) → HaveCondition 1 images c
-    as_read images (Up s) is = is
-    as_read images (Down sites) is = is
 
-module _ {tells : Told} {start now : View} (lawful : IsLawful tells start) (found : Site) (settled : IsSettled 0 start) (is : site_found 1 start.reads ≡ Some found)
+module _ {tells : Told} {start now : View} (lawful : IsLawful tells start) (found : Site) (settled : AreSettled device_count start) (is : site_found device_count start.reads ≡ Some found)
     (over : RunsOver (origin_of start) found none_failed (Boot ∷ script_requests start.streams.script) start now) where
   abbrev requests : List Request
   requests = Boot ∷ script_requests start.streams.script
@@ -283,5 +292,5 @@ module _ {tells : Told} {start now : View} (lawful : IsLawful tells start) (foun
     failed = over.since;
     failures = over.failures;
     pictures = λ p left. of_run p (each (IsOfLines (origin_of start) now found over.since requests) start now lawful over.ran
-        (λ q moment. of_answered_more (starts_answered start found) now over.added over.stamps over.since over.on requests q (read_stands start.reads found (q.images 0) is (settled (q.images 0) (moment.images 0))) moment.output) p left);
+        (λ q moment. of_answered_more (starts_answered start found) now over.added over.stamps over.since over.on requests q (read_stands start.reads q.images found is (settled 0 (omega arith) (q.images 0) (moment.images 0))) moment.output) p left);
   }

@@ -1,9 +1,18 @@
--- Pictures of a part that changes nothing.
-use Rattle.std.proofs.Common.{◌≡◌, ◌∙◌}
-use Rattle.tq_host.specs.View.{View}
-use Rattle.tq_host.specs.Within.{Ran}
-use Rattle.tq_host.proofs.Running.{ran_on, ran_weaker}
+-- Pictures of a part of a run.
+use Rattle.std.proofs.Common.{◌≡◌, inl, inr, ⊎_elim, ◌∙◌}
+use Rattle.tq_host.specs.View.{View, Images, Picture}
+use Rattle.tq_host.specs.Within.{WithinAll, IsOfAll, Ran}
+use Rattle.tq_host.proofs.RunLemmas.{ran_on, ran_weaker}
 use Rattle.tq_run.specs.Stops.{HasNoNewImage, IsWaiting}
+
+-- a call on devices
+pub ran_all : (P : Picture → Type 0) (Q : Images → Type 0) (old new : View) → WithinAll Q old new → ((p : Picture) → IsOfAll Q old p → P p) → Ran P old new
+ran_all P Q old new call has = record {
+  later = call.later;
+  pictures = λ t p le left. ⊎_elim (λ before. inl before) (λ here. inr (has p here)) (call.pictures t p le left);
+}
+
+-- A part that changes nothing
 
 pub no_new_on : (a b c : View) → HasNoNewImage a b → HasNoNewImage b c → HasNoNewImage a c
 no_new_on a b c first second = λ d image may. first d image (second d image may)

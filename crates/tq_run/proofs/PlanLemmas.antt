@@ -1,5 +1,5 @@
 -- Plans of calls on a space.
-use Rattle.std.proofs.Common.{◌≡◌, ◌<◌, ◌≤◌, ℕ, List, [], length, Option, Some, None, Bool, true, false, refl, sym, ◌∙◌, ap, subst, arith}
+use Rattle.std.proofs.Common.{◌≡◌, ◌≤◌, ℕ, List, length, Option, Some, None, Ok, Err, Bool, true, false, sym, ◌∙◌, ap, subst, arith}
 use Rattle.std.specs.Prelude.{if◌then◌else◌, nat_le, nat_lt, not, ◌&&◌, option_map}
 use Rattle.std.specs.List.{list_any}
 use Rattle.std.proofs.lemmas.Bool.{and_parts, not-true, le-leb, lt-leb}
@@ -9,72 +9,46 @@ use Rattle.tq_model.specs.declared.answer.Answer.{Answer}
 use Rattle.tq_model.specs.declared.answer.Answer.TheVariants as answers
 use Rattle.tq_model.specs.declared.answer.SpaceAnswer.TheVariants as spaces
 use Rattle.tq_model.specs.declared.calls.CallAnswer.{CallAnswer}
-use Rattle.tq_model.specs.declared.calls.EnqueueCall.{EnqueueCall}
-use Rattle.tq_model.specs.declared.calls.EnqueueWords.{EnqueueWords}
-use Rattle.tq_model.specs.declared.calls.DequeueCall.{DequeueCall}
-use Rattle.tq_model.specs.declared.calls.DequeueWords.{DequeueWords}
 use Rattle.tq_model.specs.Space.{Space}
 use Rattle.tq_model.specs.Moves.{IndexedSpace, space_of, has_index, moved_by, purged_of}
-use Rattle.tq_model.specs.Plain.{KeepsAllAtCrash, IsOwn}
-use Rattle.tq_model.specs.SpaceForm.{holds_name, added_length, gone_length, made_length}
-use Rattle.tq_model.specs.EnqueueStep.{CallOutcome, enqueue_step}
-use Rattle.tq_model.specs.DequeueStep.{dequeue_step}
-use Rattle.tq_model.specs.Step.{SpaceOutcome, enqueue_call, dequeue_call, with_queue, space_unless, queue_refusal, enqueue_outcome, dequeue_outcome, queue_outcome}
+use Rattle.tq_model.specs.SpaceForm.{holds_name, made_length}
+use Rattle.tq_model.specs.EnqueueStep.{CallOutcome}
+use Rattle.tq_model.specs.Step.{SpaceOutcome, with_queue, space_unless, queue_refusal, queue_outcome}
 use Rattle.tq_model.proofs.RecordMoves.{queue_space, has_queue_is, queues_counted}
 use Rattle.tq_space.specs.declared.plans.Plan.{Plan}
-use Rattle.tq_space.specs.Applied.{plan_applied}
+use Rattle.tq_space.specs.declared.plans.Refusal.TheVariants.{Refused}
 use Rattle.tq_space.specs.Loggable.{IsDurable}
-use Rattle.tq_space.specs.Plain.{IsBareEnqueue}
-use Rattle.tq_space.specs.Planned.{IsPlanOf, IsCreationOf, HasPlaceFor}
+use Rattle.tq_space.specs.Planned.{MeetsStep, IsCreationOf, HasPlaceFor}
 use Rattle.tq_space.proofs.LogLemmas.{same_durable}
-use Rattle.tq_run.specs.Calls.{IsPlanFor}
+use Rattle.tq_run.specs.declared.planning.Planned.TheVariants as planned
+use Rattle.tq_run.specs.Calls.{IsPlanned, IsPlanFor}
 
--- a plan of the step's, for a space and a call that are known
-pub meets_known : {C : Type 0} (step : Space → C → CallOutcome) (refusal : Space → C → Option CallAnswer) (held s : IndexedSpace) (call known : C) (plan : Plan) → held ≡ s → call ≡ known
-    → IsPlanOf (step (space_of held) call) held plan × (refusal (space_of held) call ≡ None) → IsPlanOf (step (space_of s) known) s plan × (refusal (space_of s) known ≡ None)
-meets_known {C} step refusal held s call known plan space is meets =
-    subst (λ (x : IndexedSpace). IsPlanOf (step (space_of x) known) x plan × (refusal (space_of x) known ≡ None)) space
-    (subst (λ (x : C). IsPlanOf (step (space_of held) x) held plan × (refusal (space_of held) x ≡ None)) is meets)
+-- ---- an enqueue or a dequeue, by its step
 
--- a refusal of the step's, which leaves the space as it is
-pub refused_known : {C : Type 0} (step : Space → C → CallOutcome) (refusal : Space → C → Option CallAnswer) (held s : IndexedSpace) (call known : C) (answer : CallAnswer) (purge : List MsgId) → held ≡ s → call ≡ known
-    → (refusal (space_of held) call ≡ Some answer) × (answer ≡ (step (space_of held) call).answer) × (space_of (purged_of purge held) ≡ (step (space_of held) call).space) × (purge ≡ [])
-    → (option_map answers.Call (refusal (space_of s) known) ≡ Some (answers.Call answer)) × (space_of s ≡ (step (space_of s) known).space)
-refused_known {C} step refusal held s call known answer purge space is meets =
-    let same : space_of held ≡ (step (space_of held) call).space = ap (λ (ids : List MsgId). space_of (purged_of ids held)) (sym meets.3) ∙ meets.2 in
-    subst (λ (x : IndexedSpace). (option_map answers.Call (refusal (space_of x) known) ≡ Some (answers.Call answer)) × (space_of x ≡ (step (space_of x) known).space)) space
-    (subst (λ (x : C). (option_map answers.Call (refusal (space_of held) x) ≡ Some (answers.Call answer)) × (space_of held ≡ (step (space_of held) x).space)) is (ap (option_map answers.Call) meets.0, same))
+module _ (step : Space → CallOutcome) (refusal : Space → Option CallAnswer) (size numbers : ℕ) (next : Arrival) (held s : IndexedSpace) (is : held ≡ s) where
+  abbrev outcome : Space → SpaceOutcome
+  outcome x = record { refusal = option_map answers.Call (refusal x); answer = answers.Call (step x).answer; space = (step x).space; size = size; numbers = numbers }
 
--- the same purge and moves, whatever is answered
-planned_for : (next : Arrival) (c : SpaceOutcome) (s : IndexedSpace) (plan other : Plan) → other.purge ≡ plan.purge → other.moves ≡ plan.moves → space_of (plan_applied plan s) ≡ c.space
-    → IsDurable next c.size c.numbers s plan → IsPlanFor s next c other
-planned_for next c s plan other purge moves space durable = record {
-  space = (λ i. space_of (moved_by (moves i) (purged_of (purge i) s))) ∙ space;
-  durable = same_durable next c.size c.numbers s plan other purge moves durable;
-}
+  -- a plan of the step's, whose answer is taken out of it
+  pub granted_is : (plan other : Plan) → MeetsStep (Ok plan) (step (space_of held)) (refusal (space_of held)) held → IsDurable next size numbers held plan
+      → other.purge ≡ plan.purge → other.moves ≡ plan.moves → (a : Answer) → ((x : CallAnswer) → plan.answer ≡ Some x → a ≡ answers.Call x)
+      → IsPlanned s next (outcome (space_of s)) (planned.Granted other a)
+  granted_is plan other meets durable purge moves a taken =
+      subst (λ (x : IndexedSpace). IsPlanned x next (outcome (space_of x)) (planned.Granted other a)) is (
+        ap (option_map answers.Call) meets.1,
+        taken (step (space_of held)).answer meets.0.answer,
+        record {
+          space = (λ i. space_of (moved_by (moves i) (purged_of (purge i) held))) ∙ meets.0.space;
+          durable = same_durable next size numbers held plan other purge moves durable;
+        },
+      )
 
--- ---- an enqueue
-
-bare : (words : EnqueueWords) → IsBareEnqueue (enqueue_call words 0)
-bare words = record { priority = refl; available = refl; expiration = refl; corr = refl; replyq = refl; failq = refl; qos = refl; reply_qos = refl }
-
-pub enqueue_planned : (words : EnqueueWords) (next : Arrival) (held s : IndexedSpace) (call : EnqueueCall) (plan other : Plan) → held ≡ s → call ≡ enqueue_call words 0 → KeepsAllAtCrash s
-    → (IsBareEnqueue call → KeepsAllAtCrash held → IsDurable next (added_length call.body) 1 held plan) → IsPlanOf (enqueue_step (space_of s) (enqueue_call words 0) 0 next) s plan
-    → other.purge ≡ plan.purge → other.moves ≡ plan.moves → IsPlanFor s next (enqueue_outcome words 0 next (space_of s)) other
-enqueue_planned words next held s call plan other space is plain durable meets purge moves =
-    let known : KeepsAllAtCrash held → IsDurable next (added_length words.body) 1 held plan =
-    subst (λ (x : EnqueueCall). IsBareEnqueue x → KeepsAllAtCrash held → IsDurable next (added_length x.body) 1 held plan) is durable (bare words) in
-    planned_for next (enqueue_outcome words 0 next (space_of s)) s plan other purge moves meets.space
-    (subst (λ (x : IndexedSpace). KeepsAllAtCrash x → IsDurable next (added_length words.body) 1 x plan) space known plain)
-
--- ---- a dequeue
-
-pub dequeue_planned : (words : DequeueWords) (next : Arrival) (held s : IndexedSpace) (call : DequeueCall) (plan other : Plan) → held ≡ s → call ≡ dequeue_call words → IsOwn s
-    → (call.peek ≡ false → IsOwn held → (n : Arrival) → IsDurable n gone_length 0 held plan) → IsPlanOf (dequeue_step (space_of s) (dequeue_call words) 0) s plan
-    → other.purge ≡ plan.purge → other.moves ≡ plan.moves → IsPlanFor s next (dequeue_outcome words 0 next (space_of s)) other
-dequeue_planned words next held s call plan other space is own durable meets purge moves =
-    planned_for next (dequeue_outcome words 0 next (space_of s)) s plan other purge moves meets.space
-    (subst (λ (x : IndexedSpace). IsOwn x → IsDurable next gone_length 0 x plan) space (λ here. durable (ap (λ (x : DequeueCall). x.peek) is) here next) own)
+  -- a refusal of the step's, which leaves the space as it is
+  pub refused_is : (answer : CallAnswer) (purge : List MsgId) → MeetsStep (Err (Refused answer purge)) (step (space_of held)) (refusal (space_of held)) held
+      → IsPlanned s next (outcome (space_of s)) (planned.Refused (answers.Call answer))
+  refused_is answer purge meets =
+      subst (λ (x : IndexedSpace). IsPlanned x next (outcome (space_of x)) (planned.Refused (answers.Call answer))) is
+      (ap (option_map answers.Call) meets.0, ap (λ (ids : List MsgId). space_of (purged_of ids held)) (sym meets.3) ∙ meets.2)
 
 -- ---- the refusals of a new queue
 
@@ -102,8 +76,8 @@ module _ (name : List ℕ) (s : IndexedSpace) where
       ap (λ (b : Bool). taken_or b is_full) (has_queue_is name s ∙ place.new) ∙ ap with_room (lt-leb s.limits.queues (length (space_of s).queues) (omega (arith, queues_counted s, place.fewer)))
 
   -- a refusal, which leaves the space as it is
-  pub queue_refused : (next : Arrival) (a : Answer) → queue_refusal name (space_of s) ≡ Some a → (queue_refusal name (space_of s) ≡ Some a) × (space_of s ≡ (queue_outcome name 0 next (space_of s)).space)
-  queue_refused next a is = (is, sym (ap (λ (o : Option Answer). space_unless o (space_of s) (with_queue name (space_of s))) is))
+  pub queue_refused : (a : Answer) → queue_refusal name (space_of s) ≡ Some a → (queue_refusal name (space_of s) ≡ Some a) × (space_of s ≡ (queue_outcome name (space_of s)).space)
+  queue_refused a is = (is, sym (ap (λ (o : Option Answer). space_unless o (space_of s) (with_queue name (space_of s))) is))
 
 -- ---- a new queue
 
@@ -114,7 +88,7 @@ module _ (name : List ℕ) (s : IndexedSpace) (plan : Plan) (creation : IsCreati
       let new = not (list_any (has_index creation.index) s.queues) in
       not-true (list_any (has_index creation.index) s.queues) (and_parts room new (and_parts (room && new) (not (list_any (holds_name name) s.queues)) creation.can).0).1
 
-  pub queue_planned : (next : Arrival) → IsDurable next (made_length name) 0 s plan → IsPlanFor s next (queue_outcome name 0 next (space_of s)) plan
+  pub queue_planned : (next : Arrival) → IsDurable next (made_length name) 0 s plan → IsPlanFor s next (queue_outcome name (space_of s)) plan
   queue_planned next durable = record {
     space = (λ i. space_of (moved_by (creation.moves i) (purged_of (creation.purge i) s))) ∙ queue_space creation.index name s unused
         ∙ sym (ap (λ (o : Option Answer). space_unless o (space_of s) (with_queue name (space_of s))) (queue_free name s place));

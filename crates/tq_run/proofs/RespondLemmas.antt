@@ -1,11 +1,8 @@
 -- A line that is done while there is a site, and one while there is none.
-use Rattle.std.proofs.Common.{◌≡◌, ◌≢◌, inl, inr, ◌≤◌, ℕ, List, [], ◌∷◌, Option, Some, Bool, true, false, refl, sym, ◌∙◌, ap, subst, arith}
-use Rattle.std.specs.Prelude.{nat_lt}
-use Rattle.std.proofs.lemmas.Bool.Decides.{nat_tests}
-use Rattle.tq_host.specs.View.{View}
-use Rattle.tq_host.specs.Calls.{HasCauseOf}
-use Rattle.tq_host.specs.Within.{Within}
-use Rattle.tq_host.proofs.Within.{weaker, starts}
+use Rattle.std.proofs.Common.{◌≡◌, ◌≢◌, inl, inr, ⊎_elim, List, [], ◌∷◌, Option, Bool, true, false, refl, sym, ◌∙◌, ap, subst, arith}
+use Rattle.tq_host.specs.View.{View, Images, AreNow}
+use Rattle.tq_host.specs.Within.{WithinAll}
+use Rattle.tq_host.proofs.AllDevices.{starts_all, weaker_all}
 use Rattle.tq_model.specs.declared.answer.Answer.{Answer}
 use Rattle.tq_model.specs.declared.answer.Answer.TheVariants as answers
 use Rattle.tq_model.specs.declared.request.Request.{Request}
@@ -13,44 +10,47 @@ use Rattle.tq_model.specs.declared.request.Request.TheVariants.{Nothing, Boot, B
 use Rattle.tq_model.specs.Site.{Site, durable}
 use Rattle.tq_model.specs.Step.{step}
 use Rattle.tq_model.specs.Reading.{site_found}
-use Rattle.tq_model.specs.MachineWithFaults.{Condition, Up, Down, Turn, down_answer, failing_turn, steady_turn, turn_at}
-use Rattle.tq_model.proofs.Images.{found_durable}
-use Rattle.tq_device.specs.Content.{IsAnyStep}
+use Rattle.tq_model.specs.MachineWithFaults.{Condition, Up, Down, Turn, down_answer, steady_turn, turn_at}
 use Rattle.tq_run.specs.declared.site.Manager.{Manager}
 use Rattle.tq_run.specs.declared.state.State.{State}
 use Rattle.tq_run.specs.declared.state.State.TheVariants as states
-use Rattle.tq_run.specs.declared.status.RunEnd.{RunEnd}
-use Rattle.tq_run.specs.declared.status.RunEnd.TheVariants.{Damaged, Memory, Input, Output, Device as Failed, TooMuchInput}
 use Rattle.tq_run.specs.Serving.{IsServed, ChangesOnce}
-use Rattle.tq_run.specs.Counts.{Rises, StopCounts}
+use Rattle.tq_run.specs.Counts.{Rises}
 use Rattle.tq_run.specs.Manager.{site_of}
-use Rattle.tq_run.specs.Stops.{ImagesMatch, IsEither, HasSite, HasNoNewImage}
-use Rattle.tq_run.specs.Turns.{HasCondition, turn_between, IsBeforeOrAfter}
+use Rattle.tq_run.specs.Idle.{IsIdle}
+use Rattle.tq_run.specs.Stops.{ImagesMatch, AreEither, HasNoNewImage}
+use Rattle.tq_run.specs.Turns.{AreInCondition, turn_between, AreBeforeOrAfter}
 use Rattle.tq_run.specs.Standing.{StateMatches, StateImagesMatch, HasTurned, IsTurning}
-use Rattle.tq_run.proofs.FoundLemmas.{image_stands}
-use Rattle.tq_run.proofs.DeviceStopLemmas.{any_steps}
+use Rattle.tq_run.specs.Words.{device_count}
+use Rattle.tq_run.proofs.CountLemmas.{steady_cause, risen_cause}
+use Rattle.tq_run.proofs.FoundLemmas.{stands_for, found_have}
 
--- whether a count rose
-pub calm : (before now : ℕ) → now ≡ before → nat_lt before now ≡ false
-calm before now same = grind (arith, nat_tests)
+-- What holds of the site, or of any sites, holds of each condition that the state matches.
+pub of_up : (m : Manager) (v : View) (P : Condition → Type 0) → (ImagesMatch m v → P (Up (site_of m))) → (c : Condition) → StateMatches (states.Up m) c v → P c
+of_up m v P holds (Up s) is = subst (λ (x : Site). P (Up x)) is.site (holds is.on)
+of_up m v P holds (Down sites) is = absurd is
 
--- no device failed, or one did
-pub no_cause : (before now : ℕ) → now ≡ before → HasCauseOf (◌≡◌ {A = Bool} false true) before now
-no_cause before now same = record { later = omega (arith, same); rose = λ e. absurd (unlike e); only = λ lt. absurd (omega (arith, lt, same)) }
-  where
-    unlike : false ≡ true → ⊥
-    unlike e = cc
+of_down : (v : View) (P : Condition → Type 0) → ((sites : List Site) → ((images : Images) → AreNow v images → AreInCondition (Down sites) images) → P (Down sites)) → (c : Condition) → StateMatches states.Down c v → P c
+of_down v P holds (Up s) is = absurd is
+of_down v P holds (Down sites) is = holds sites is
 
-pub its_cause : (before now : ℕ) → Rises before now → HasCauseOf (◌≡◌ {A = Bool} true true) before now
-its_cause before now rises = record { later = rises.later; rose = λ e. rises.rose; only = λ lt. refl }
+-- the images stand for the condition
+pub images_in : (state : State) (c : Condition) (v : View) → StateMatches state c v → (images : Images) → AreNow v images → AreInCondition c images
+images_in (states.Up m) c v is images may = of_up m v (λ (x : Condition). AreInCondition x images) (λ on. stands_for m images (on (images 0) (may 0))) c is
+images_in states.Down c v is images may = of_down v (λ (x : Condition). AreInCondition x images) (λ sites have. have images may) c is
 
--- Up
+-- where no image is new
+pub still_in : (state : State) (c : Condition) (a b : View) → HasNoNewImage a b → StateMatches state c a → StateMatches state c b
+still_in (states.Up m) c a b none is = of_up m a (λ (x : Condition). StateMatches (states.Up m) x b) (λ on. record { site = refl; on = λ image may. on image (none 0 image may) }) c is
+still_in states.Down c a b none is = of_down a (λ (x : Condition). StateMatches states.Down x b) (λ sites have images may. have images (λ d. none d (images d) (may d))) c is
 
-pub up_only : (m : Manager) (c : Condition) (v : View) → StateMatches (states.Up m) c v → (c ≡ Up (site_of m)) × ImagesMatch m v
-up_only m (Up s) v is = (ap Up (sym is.site), is.on)
-up_only m (Down sites) v is = absurd is
+pub still_match : (state : State) (a b : View) → HasNoNewImage a b → StateImagesMatch state a → StateImagesMatch state b
+still_match (states.Up m) a b none on = λ image may. on image (none 0 image may)
+still_match states.Down a b none on = tt
 
-pub steady_is : (s : Site) (request : Request) → request ≢ Boot → steady_turn s request ≡ record { condition = Up (step s request).site; answer = (step s request).answer }
+-- Turns of other lines than a boot
+
+steady_is : (s : Site) (request : Request) → request ≢ Boot → steady_turn s request ≡ record { condition = Up (step s request).site; answer = (step s request).answer }
 steady_is s Nothing ne = refl
 steady_is s Boot ne = absurd (ne refl)
 steady_is s (Bad column) ne = refl
@@ -59,33 +59,7 @@ steady_is s (Device request) ne = refl
 steady_is s (Space request) ne = refl
 steady_is s (Call request) ne = refl
 
--- the pictures of a line in which nothing failed, and of one in which a device did
-pub steady_pictures : (s : Site) (r : Request) (t : Turn) (a b : View) → t ≡ record { condition = Up (step s r).site; answer = (step s r).answer }
-    → Within 0 IsAnyStep (IsEither s (step s r).site) a b → Within 0 IsAnyStep (IsBeforeOrAfter (Up s) t) a b
-steady_pictures s r t a b is within = subst (λ (u : Turn). Within 0 IsAnyStep (IsBeforeOrAfter (Up s) u) a b) (sym is) within
-
--- a crash of what a crash left changes nothing
-pub twice : (s : Site) (image : List ℕ) → HasSite s image → HasSite (durable s) image
-twice s image is = is ∙ ap (λ (x : Site). Some x) (sym (found_durable 1 (λ d. image) (durable s) is))
-
--- an image that stands for one of two sites is one of a list of both
-pub one_of_two : (s t : Site) (image : List ℕ) → IsEither s t image → HasCondition (Down (durable s ∷ durable t ∷ [])) image
-one_of_two s t image (inl old) = (0, durable s, omega arith, refl, twice s image old)
-one_of_two s t image (inr new) = (1, durable t, omega arith, refl, twice t image new)
-
-pub failing_pictures : (s : Site) (r : Request) (t : Turn) (a b : View) → t ≡ failing_turn s r
-    → Within 0 IsAnyStep (IsEither s (step s r).site) a b → Within 0 IsAnyStep (IsBeforeOrAfter (Up s) t) a b
-failing_pictures s r t a b is within =
-    subst (λ (u : Turn). Within 0 IsAnyStep (IsBeforeOrAfter (Up s) u) a b) (sym is)
-    (weaker 0 IsAnyStep any_steps (IsEither s (step s r).site) (IsBeforeOrAfter (Up s) (failing_turn s r)) a b (λ start image may either. inr (one_of_two s (step s r).site image either)) within)
-
--- each image after a line that failed
-pub failed_images : (s : Site) (r : Request) (a b : View) → Within 0 IsAnyStep (IsEither s (step s r).site) a b → StateMatches states.Down (failing_turn s r).condition b
-failed_images s r a b within = λ image may. one_of_two s (step s r).site image (within.own image may).now
-
--- Down
-
-pub down_is : (rose : Bool) (found : Option Site) (sites : List Site) (r : Request) → r ≢ Boot → turn_at rose found (Down sites) r ≡ record { condition = Down sites; answer = down_answer r }
+down_is : (rose : Bool) (found : Option Site) (sites : List Site) (r : Request) → r ≢ Boot → turn_at rose found (Down sites) r ≡ record { condition = Down sites; answer = down_answer r }
 down_is rose found sites Nothing ne = refl
 down_is rose found sites Boot ne = absurd (ne refl)
 down_is rose found sites (Bad column) ne = refl
@@ -94,108 +68,73 @@ down_is rose found sites (Device request) ne = refl
 down_is rose found sites (Space request) ne = refl
 down_is rose found sites (Call request) ne = refl
 
--- the turn of a line while there is no site
-pub down_between : (c : Condition) (r : Request) (failed : Bool) (reads : ℕ → List ℕ) (v : View) → r ≢ Boot → StateMatches states.Down c v → turn_between failed reads c r ≡ record { condition = c; answer = down_answer r }
-down_between (Up s) r failed reads v ne is = absurd is
-down_between (Down sites) r failed reads v ne is = down_is failed (site_found 1 reads) sites r ne
-
-pub down_images : (c : Condition) (v : View) (image : List ℕ) → StateMatches states.Down c v → v.may_leave 0 image → HasCondition c image
-down_images (Up s) v image is may = absurd is
-down_images (Down sites) v image is may = is image may
-
-pub down_pictures : (c : Condition) (t : Turn) (v : View) → StateMatches states.Down c v → Within 0 IsAnyStep (IsBeforeOrAfter c t) v v
-down_pictures c t v is = starts 0 IsAnyStep any_steps (IsBeforeOrAfter c t) v (λ image may. inl (down_images c v image is may))
-
--- In any state
-
--- each image stands for the condition
-pub images_in : (state : State) (c : Condition) (v : View) (image : List ℕ) → StateMatches state c v → v.may_leave 0 image → HasCondition c image
-images_in (states.Up m) (Up s) v image is may = subst (λ (x : Site). HasSite x image) is.site (image_stands m image (is.on image may))
-images_in (states.Up m) (Down sites) v image is may = absurd is
-images_in states.Down (Up s) v image is may = absurd is
-images_in states.Down (Down sites) v image is may = is image may
-
--- where no image is new
-pub still_in : (state : State) (c : Condition) (a b : View) → HasNoNewImage a b → StateMatches state c a → StateMatches state c b
-still_in (states.Up m) (Up s) a b none is = record { site = is.site; on = λ image may. is.on image (none 0 image may) }
-still_in (states.Up m) (Down sites) a b none is = absurd is
-still_in states.Down (Up s) a b none is = absurd is
-still_in states.Down (Down sites) a b none is = λ image may. is image (none 0 image may)
-
-pub still_match : (state : State) (a b : View) → HasNoNewImage a b → StateImagesMatch state a → StateImagesMatch state b
-still_match (states.Up m) a b none on = λ image may. on image (none 0 image may)
-still_match states.Down a b none on = tt
+-- images that stand for one of two sites stand for one of a list of both
+one_of_two : (s t : Site) (images : Images) → AreEither s t images → AreInCondition (Down (durable s ∷ durable t ∷ [])) images
+one_of_two s t images = ⊎_elim (λ old. (0, durable s, omega arith, refl, found_have images (durable s) old)) (λ new. (1, durable t, omega arith, refl, found_have images (durable t) new))
 
 -- What a line that is served came to
 
-module _ (m : Manager) (request : Request) (a b : View) (ne : request ≢ Boot) where
-  abbrev s : Site
-  s = site_of m
+module _ (m : Manager) (request : Request) (a b : View) (ne : request ≢ Boot) (stop : ChangesOnce (step (site_of m) request) m a b) where
+  steady : turn_between false a.reads (Up (site_of m)) request ≡ record { condition = Up (step (site_of m) request).site; answer = (step (site_of m) request).answer }
+  steady = steady_is (site_of m) request ne
 
   -- the pictures where no device failed, and where one did
-  within_up : ChangesOnce (step (site_of m) request) m a b → (c : Condition) → StateMatches (states.Up m) c a → Within 0 IsAnyStep (IsBeforeOrAfter c (turn_between false a.reads c request)) a b
-  within_up stop c is =
-      let up = up_only m c a is in
-      subst (λ (x : Condition). Within 0 IsAnyStep (IsBeforeOrAfter x (turn_between false a.reads x request)) a b) (sym up.0)
-      (steady_pictures s request (turn_between false a.reads (Up (site_of m)) request) a b (steady_is s request ne) stop.within)
+  within_up : (c : Condition) → StateMatches (states.Up m) c a → WithinAll (AreBeforeOrAfter c (turn_between false a.reads c request)) a b
+  within_up = of_up m a (λ (c : Condition). WithinAll (AreBeforeOrAfter c (turn_between false a.reads c request)) a b)
+      (λ on. subst (λ (t : Turn). WithinAll (AreBeforeOrAfter (Up (site_of m)) t) a b) (sym steady) stop.within)
 
-  within_down : ChangesOnce (step (site_of m) request) m a b → (c : Condition) → StateMatches (states.Up m) c a → Within 0 IsAnyStep (IsBeforeOrAfter c (turn_between true a.reads c request)) a b
-  within_down stop c is =
-      let up = up_only m c a is in
-      subst (λ (x : Condition). Within 0 IsAnyStep (IsBeforeOrAfter x (turn_between true a.reads x request)) a b) (sym up.0)
-      (failing_pictures s request (turn_between true a.reads (Up (site_of m)) request) a b refl stop.within)
+  within_down : (c : Condition) → StateMatches (states.Up m) c a → WithinAll (AreBeforeOrAfter c (turn_between true a.reads c request)) a b
+  within_down = of_up m a (λ (c : Condition). WithinAll (AreBeforeOrAfter c (turn_between true a.reads c request)) a b)
+      (λ on. weaker_all _ _ a b (λ images either. inr (one_of_two (site_of m) (step (site_of m) request).site images either)) stop.within)
 
-  -- done, and no device failed
-  pub served : (m' : Manager) (answer : Answer) → b.faults ≡ a.faults → IsServed (step (site_of m) request) m m' b answer → ChangesOnce (step (site_of m) request) m a b → HasTurned (states.Up m) (states.Up m') request answer a b
-  served m' answer same is_served stop = record {
-    failed = false;
-    cause = no_cause a.faults b.faults same;
-    answer = λ c is.
-        let up = up_only m c a is in
-        subst (λ (x : Condition). answer ≡ (turn_between false a.reads x request).answer) (sym up.0) (is_served.answer ∙ ap (λ (t : Turn). t.answer) (sym (steady_is s request ne)));
-    then = λ c is.
-        let up = up_only m c a is in
-        subst (λ (x : Condition). StateMatches (states.Up m') (turn_between false a.reads x request).condition b) (sym up.0)
-        (subst (λ (t : Turn). StateMatches (states.Up m') t.condition b) (sym (steady_is s request ne)) (record { site = is_served.site; on = is_served.images }));
-    within = within_up stop;
-  }
+  pub serving : b.faults ≡ a.faults → IsTurning (states.Up m) request a b
+  serving same = record { failed = false; cause = steady_cause same (λ e. cc); within = within_up }
 
-  pub serving : b.faults ≡ a.faults → ChangesOnce (step (site_of m) request) m a b → IsTurning (states.Up m) request a b
-  serving same stop = record { failed = false; cause = no_cause a.faults b.faults same; within = within_up stop }
+  pub failing : Rises a.faults b.faults → IsTurning (states.Up m) request a b
+  failing rises = record { failed = true; cause = risen_cause rises refl; within = within_down }
 
-  -- a device failed
-  pub failed : Rises a.faults b.faults → ChangesOnce (step (site_of m) request) m a b → HasTurned (states.Up m) states.Down request answers.SystemError a b
-  failed rises stop = record {
-    failed = true;
-    cause = its_cause a.faults b.faults rises;
-    answer = λ c is. let up = up_only m c a is in subst (λ (x : Condition). answers.SystemError ≡ (turn_between true a.reads x request).answer) (sym up.0) refl;
-    then = λ c is.
-        let up = up_only m c a is in
-        subst (λ (x : Condition). StateMatches states.Down (turn_between true a.reads x request).condition b) (sym up.0) (failed_images s request a b stop.within);
-    within = within_down stop;
-  }
+  module _ (still : durable (step (site_of m) request).site ≡ durable (site_of m) → b.clock ≡ a.clock) where
+    idles : (c : Condition) → StateMatches (states.Up m) c a → IsIdle c request → b.clock ≡ a.clock
+    idles = of_up m a (λ (c : Condition). IsIdle c request → b.clock ≡ a.clock) (λ on idle. still idle.1)
 
-  pub failing : Rises a.faults b.faults → ChangesOnce (step (site_of m) request) m a b → IsTurning (states.Up m) request a b
-  failing rises stop = record { failed = true; cause = its_cause a.faults b.faults rises; within = within_down stop }
+    -- done, and no device failed
+    pub served : (m' : Manager) (answer : Answer) → b.faults ≡ a.faults → IsServed (step (site_of m) request) m m' b answer → HasTurned (states.Up m) (states.Up m') request answer a b
+    served m' answer same is_served = record {
+      failed = false;
+      cause = steady_cause same (λ e. cc);
+      answer = of_up m a (λ (c : Condition). answer ≡ (turn_between false a.reads c request).answer) (λ on. is_served.answer ∙ ap (λ (t : Turn). t.answer) (sym steady));
+      then = of_up m a (λ (c : Condition). StateMatches (states.Up m') (turn_between false a.reads c request).condition b)
+          (λ on. subst (λ (t : Turn). StateMatches (states.Up m') t.condition b) (sym steady) (record { site = is_served.site; on = is_served.images }));
+      within = within_up;
+      idle = idles;
+    }
 
--- where no device failed
-pub quiet_unless : (stop : RunEnd) (a b : View) → StopCounts stop a b → stop ≢ Failed → b.faults ≡ a.faults
-quiet_unless Memory a b counts other = counts.device
-quiet_unless Failed a b counts other = absurd (other refl)
-quiet_unless Damaged a b counts other = counts.device
-quiet_unless Input a b counts other = counts.device
-quiet_unless Output a b counts other = counts.device
-quiet_unless TooMuchInput a b counts other = counts.device
+    -- a device failed
+    pub failed : Rises a.faults b.faults → HasTurned (states.Up m) states.Down request answers.SystemError a b
+    failed rises = record {
+      failed = true;
+      cause = risen_cause rises refl;
+      answer = of_up m a (λ (c : Condition). answers.SystemError ≡ (turn_between true a.reads c request).answer) (λ on. refl);
+      then = of_up m a (λ (c : Condition). StateMatches states.Down (turn_between true a.reads c request).condition b)
+          (λ on images may. one_of_two (site_of m) (step (site_of m) request).site images (stop.within.images images may));
+      within = within_down;
+      idle = idles;
+    }
 
 -- and one while there is no site
+down_within : (request : Request) (a : View) (c : Condition) → StateMatches states.Down c a → WithinAll (AreBeforeOrAfter c (turn_between false a.reads c request)) a a
+down_within request a c is = starts_all (AreBeforeOrAfter c (turn_between false a.reads c request)) a (λ images may. inl (images_in states.Down c a is images may))
+
+pub refusing : (request : Request) (a : View) → IsTurning states.Down request a a
+refusing request a = record { failed = false; cause = steady_cause refl (λ e. cc); within = down_within request a }
+
 pub refused : (request : Request) (a : View) → request ≢ Boot → HasTurned states.Down states.Down request (down_answer request) a a
 refused request a ne = record {
   failed = false;
-  cause = no_cause a.faults a.faults refl;
-  answer = λ c is. ap (λ (t : Turn). t.answer) (sym (down_between c request false a.reads a ne is));
-  then = λ c is. subst (λ (t : Turn). StateMatches states.Down t.condition a) (sym (down_between c request false a.reads a ne is)) is;
-  within = λ c is. down_pictures c (turn_between false a.reads c request) a is;
+  cause = steady_cause refl (λ e. cc);
+  answer = of_down a (λ (c : Condition). down_answer request ≡ (turn_between false a.reads c request).answer) (λ sites have. ap (λ (t : Turn). t.answer) (sym (down_is false (site_found device_count a.reads) sites request ne)));
+  then = of_down a (λ (c : Condition). StateMatches states.Down (turn_between false a.reads c request).condition a)
+      (λ sites have. subst (λ (t : Turn). StateMatches states.Down t.condition a) (sym (down_is false (site_found device_count a.reads) sites request ne)) have);
+  within = down_within request a;
+  idle = λ c is idle. refl;
 }
-
-pub refusing : (request : Request) (a : View) → IsTurning states.Down request a a
-refusing request a = record { failed = false; cause = no_cause a.faults a.faults refl; within = λ c is. down_pictures c (turn_between false a.reads c request) a is }

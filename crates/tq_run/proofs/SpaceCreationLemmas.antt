@@ -1,12 +1,14 @@
 -- How a space is made: what a stop leaves while it is, and what is on the device then.
 use Rattle.std.proofs.Common.{◌≡◌, inl, inr, ⊎_elim, ◌<◌, ◌≤◌, ℕ, ◌+◌, ◌-◌, ◌*◌, List, [], ◌∷◌, ◌++◌, Option, Some, None, refl, sym, ◌∙◌, ap, subst, arith, length, get_or, take, drop}
-use Rattle.std.specs.Prelude.{option_map}
+use Rattle.std.specs.Prelude.{option_map, unwrap_or}
 use Rattle.std.specs.Option.{option_and_then}
 use Rattle.std.proofs.lemmas.Bool.Decides.{nat_tests}
 use Rattle.std.proofs.lemmas.List.{ext_get_or, length-drop, get_or-drop}
-use Rattle.tq_host.specs.View.{Told, View, IsLawful, IsSettled}
-use Rattle.tq_host.specs.Within.{Within}
+use Rattle.tq_host.specs.View.{View, Images}
+use Rattle.tq_host.specs.Within.{KeepsRest, Within}
+use Rattle.tq_host.proofs.Steps.{IsSteps}
 use Rattle.tq_host.proofs.Within.{weaker, in_a_row, wider}
+use Rattle.tq_host.proofs.AllDevices.{of_one}
 use Rattle.tq_model.specs.declared.answer.Answer.{Answer}
 use Rattle.tq_model.specs.declared.answer.Answer.TheVariants as answers
 use Rattle.tq_model.specs.declared.answer.SpaceAnswer.TheVariants as space_answers
@@ -18,7 +20,7 @@ use Rattle.tq_model.specs.declared.answer.Extent.{Extent}
 use Rattle.tq_model.specs.Parts.{IsPart, table_with}
 use Rattle.tq_model.proofs.CreationLemmas.{first_clusters}
 use Rattle.tq_model.specs.Plain.{IsBefore, IsNewer}
-use Rattle.tq_model.specs.Site.{Site, Volume, volume_of, clusters_for}
+use Rattle.tq_model.specs.Site.{Site, Volume, volume_of, clusters_for, durable}
 use Rattle.tq_model.specs.Space.{overhead_pages}
 use Rattle.tq_model.specs.SpaceForm.{raw_space, shape_of, empty_space, replayed}
 use Rattle.tq_model.specs.Step.{Outcome, create_space, unless, space_made, placed_new, shape_asked, pages_asked, field_refused}
@@ -35,11 +37,15 @@ use Rattle.tq_run.specs.declared.site.Manager.{Manager}
 use Rattle.tq_run.specs.Manager.{site_of, site_with, site_at, placed_at, placed_in, IsContentOn}
 use Rattle.tq_run.specs.Together.{place_of}
 use Rattle.tq_run.specs.Spaces.{IsShape, IsAdmitted, HasNewSpace, IsNewSpaceOn, IsBareOrNew}
-use Rattle.tq_run.specs.Stops.{HasSite, IsEither}
-use Rattle.tq_run.proofs.FoundLemmas.{image_at, image_bare, part_of_stands}
-use Rattle.tq_device.proofs.Offered.{below_stands}
+use Rattle.tq_run.specs.Stops.{ImagesHave, ImagesMatch, AreEither}
+use Rattle.tq_run.specs.Serving.{ChangesOnce}
+use Rattle.tq_run.proofs.FoundLemmas.{image_at, image_bare, part_of_stands, content_stands}
+use Rattle.tq_device.proofs.ForCallers.{below_stands}
 use Rattle.tq_device.proofs.Longer.{longer_stands}
-use Rattle.tq_run.proofs.DeviceStopLemmas.{any_steps}
+
+-- any step of an image
+pub any_steps : IsSteps IsAnyStep
+any_steps = record { none = λ c. tt; both = λ a b c first second. tt }
 
 -- ---- the pages of a space
 
@@ -76,10 +82,6 @@ formatted_has d n shape epoch image pages is reach =
     })
 
 -- ---- while the space is laid out
-
--- where a device is settled, each image has what is read
-pub settled_all : {tells : Told} (P : List ℕ → Type 0) (v : View) → IsLawful tells v → IsSettled 0 v → (tells.reads → P (v.reads 0)) → (c : List ℕ) → v.may_leave 0 c → P c
-settled_all P v lawful settled done c may = subst P (sym (settled c may)) (done (lawful.reads_told (lawful.stops_told 0 c may)))
 
 module _ (d : DeviceContent) (name : List ℕ) (shape : Shape) where
   -- the device gets its length
@@ -162,24 +164,33 @@ module _ (c : SpaceCreation) (m : Manager) (d : DeviceContent) (is : IsAdmitted 
       ∙ subst (λ dev. space_made (record c { dev = dev }) (site_at d None m.next) (volume_of (site_at d None m.next) dev) ≡ new_outcome c d m.next) (sym is.dev)
       (ap made (first_clusters bare (clusters_for c.pages) refl (omega (arith, is.large)) is.clusters))
 
-  -- an image without the space, and one with it
-  bare_stands : (image : List ℕ) → IsPart (part_of d) image → HasSite (site_of m) image
-  bare_stands image parts = subst (λ (s : Site). HasSite s image) (sym bare_site) (image_bare d m.next image parts is.bare)
+  -- the images without the space, and those with it
+  bare_have : (images : Images) → IsPart (part_of d) (images 0) → ImagesHave (site_of m) images
+  bare_have images parts = subst (λ (s : Site). ImagesHave s images) (sym bare_site) (image_bare d m.next images parts is.bare)
 
-  new_stands : (image : List ℕ) → IsNewSpaceOn d c.name (shape_asked c) image → HasSite (create_space c (site_of m)).site image
-  new_stands image new =
+  new_have : (images : Images) → IsNewSpaceOn d c.name (shape_asked c) (images 0) → ImagesHave (create_space c (site_of m)).site images
+  new_have images new =
       let shape = shape_asked c in
       let n = new_named d c.name shape.pages in
-      subst (λ (o : Outcome). HasSite o.site image) (sym space_granted)
-      (image_at (entered d c.name shape.pages) n (new_held d shape) 0 m.next image new.parts refl (empty_plain shape d.site (8 * d.next_space + 0)) (formatted_has d n shape d.epoch image refl new.formatted new.reach))
+      subst (λ (o : Outcome). ImagesHave o.site images) (sym space_granted)
+      (image_at (entered d c.name shape.pages) n (new_held d shape) 0 m.next images new.parts refl (empty_plain shape d.site (8 * d.next_space + 0)) (formatted_has d n shape d.epoch (images 0) refl new.formatted new.reach))
 
   -- the images while it is made
-  pub making : (shape : Shape) (a b : View) → shape ≡ shape_asked c → Within 0 IsAnyStep (IsBareOrNew d c.name shape) a b → Within 0 IsAnyStep (IsEither (site_of m) (create_space c (site_of m)).site) a b
-  making shape a b asked within =
-      weaker 0 IsAnyStep any_steps (IsBareOrNew d c.name shape) (IsEither (site_of m) (create_space c (site_of m)).site) a b
-      (λ i image was is. ⊎_elim
-      (λ bare. inl (bare_stands image bare))
-      (λ new. inr (new_stands image (subst (λ (s : Shape). IsNewSpaceOn d c.name s image) asked new))) is) within
+  pub making : (shape : Shape) (a b : View) → shape ≡ shape_asked c → ImagesMatch m a → KeepsRest 0 a b
+      → (((image : List ℕ) → a.may_leave 0 image → HasContent d image) → Within 0 IsAnyStep (IsBareOrNew d c.name shape) a b) → ChangesOnce (create_space c (site_of m)) m a b
+  making shape a b asked on rest stop = record {
+    attached = rest.attached;
+    within = of_one 0 IsAnyStep (IsBareOrNew d c.name shape) (AreEither (site_of m) (create_space c (site_of m)).site) a b (λ i images was step has. ⊎_elim
+        (λ bare. inl (bare_have images bare))
+        (λ new. inr (new_have images (subst (λ (s : Shape). IsNewSpaceOn d c.name s (images 0)) asked new))) has) (stop (λ image may. content_stands m d image is.content (on image may)));
+  }
+
+  -- such a creation does not leave alone what lasts
+  pub space_differs : durable (create_space c (site_of m)).site ≡ durable (site_of m) → ⊥
+  space_differs same =
+      let next_in : Site → ℕ = λ s. unwrap_or (option_map (λ (v : Volume). v.next_space) (get_or s.devices 0 None)) 0 in
+      let e : d.next_space + 1 ≡ d.next_space = ap (λ (o : Outcome). next_in (durable o.site)) (sym space_granted) ∙ ap next_in same ∙ ap (λ (s : Site). next_in (durable s)) bare_site in
+      omega (arith, e)
 
   pub new_answer : (pages : SpacePages) → pages ≡ pages_asked c → answers.Space (space_answers.Created (record { number = 8 * d.next_space; pages = pages })) ≡ (create_space c (site_of m)).answer
   new_answer pages asked =

@@ -2,10 +2,10 @@
 use Rattle.std.proofs.Common.{◌≡◌, ◌⊎◌, inl, inr, ⊎_elim, ◌<◌, ◌≤◌, ℕ, zero, suc, ◌+◌, ◌-◌, List, [], ◌∷◌, ◌++◌, Option, Bool, true, refl, sym, ◌∙◌, ap, subst, arith, length, take, get_or, append_assoc, length-append}
 use Rattle.std.specs.Prelude.{map, replicate}
 use Rattle.std.proofs.lemmas.List.{append-nil, append_cancel_left, take_all, take_at, take-append-le, length-replicate}
-use Rattle.tq_host.specs.View.{View, Stamp, Picture, Streams, stamp_now}
+use Rattle.tq_host.specs.View.{View, Stamp, Picture, Streams, Images, AreNow, stamp_now}
 use Rattle.tq_host.specs.Calls.{HasCauseOf, IsGiven, IsGiving}
-use Rattle.tq_host.specs.Within.{Within, Ran}
-use Rattle.tq_host.proofs.Running.{ran_on, ran_call, ran_weaker}
+use Rattle.tq_host.specs.Within.{WithinAll, Ran}
+use Rattle.tq_host.proofs.RunLemmas.{ran_on, ran_weaker}
 use Rattle.tq_model.specs.declared.request.Request.{Request}
 use Rattle.tq_model.specs.Site.{Site}
 use Rattle.tq_model.specs.Text.{line_text}
@@ -13,10 +13,13 @@ use Rattle.tq_model.specs.Reading.{site_found}
 use Rattle.tq_model.specs.MachineWithFaults.{Condition, Up, Down, Trace, Failures, Turn, Progress, count_before, count_at, found_at, turn, advance, after, beginning, HaveCondition, turn_at}
 use Rattle.tq_model.proofs.LineText.{length-line_text}
 use Rattle.tq_run.specs.Failures.{AreFailures}
-use Rattle.tq_run.specs.Turns.{HasCondition, IsBeforeOrAfter, Origin, origin_of, none_failed, GoesOn, IsAnswered, IsOfLines, RunsOver, turn_between, trace_from, told_after}
+use Rattle.tq_run.specs.Stops.{HasNoNewImage}
+use Rattle.tq_run.specs.Words.{device_count}
+use Rattle.tq_run.specs.Turns.{AreInCondition, AreBeforeOrAfter, Origin, origin_of, none_failed, GoesOn, IsAnswered, IsOfLines, RunsOver, turn_between, trace_from, told_after}
+use Rattle.tq_run.proofs.PictureLemmas.{ran_all}
 use Rattle.tq_run.proofs.FailureAccountLemmas.{faults_of, next_choice, before_next, at_next, failures_next, get_or_told, get_or_next, count_last, count_same, none_failing}
 
-abbrev reads_of : Stamp → ℕ → List ℕ
+abbrev reads_of : Stamp → Images
 reads_of s = s.reads
 
 -- Turns
@@ -31,9 +34,9 @@ abbrev told_turn : List ℕ → ℕ → Turn → Progress
 told_turn text n t = record { condition = t.condition; text = text ++ line_text n t.answer; line = n + 1 }
 
 module _ (trace : Trace) (failed : Failures) where
-  pub after-append : (done : List Request) (p : Progress) (r : Request) → after trace failed p (done ++ r ∷ []) ≡ advance trace failed (after trace failed p done) r
-  after-append [] p r = refl
-  after-append (first ∷ done) p r = after-append done (advance trace failed p first) r
+  pub after-append : (done more : List Request) (p : Progress) → after trace failed p (done ++ more) ≡ after trace failed (after trace failed p done) more
+  after-append [] more p = refl
+  after-append (first ∷ done) more p = after-append done more (advance trace failed p first)
 
   pub line-after : (done : List Request) (p : Progress) → (after trace failed p done).line ≡ p.line + length done
   line-after [] p = omega arith
@@ -59,13 +62,13 @@ module _ (trace : Trace) (failed : Failures) where
 
 -- More stamps
 
-get_or-map-replicate : {A : Type 0} (f : Stamp → A) (n i : ℕ) (s : Stamp) (d : A) → i < n → get_or (map f (replicate n s)) i d ≡ f s
+pub get_or-map-replicate : {A : Type 0} (f : Stamp → A) (n i : ℕ) (s : Stamp) (d : A) → i < n → get_or (map f (replicate n s)) i d ≡ f s
 get_or-map-replicate f zero i s d lt = absurd (omega arith)
 get_or-map-replicate f (suc n) zero s d lt = refl
 get_or-map-replicate f (suc n) (suc i) s d lt = get_or-map-replicate f n i s d (omega arith)
 
 -- the last of several stamps that are the same
-last_told : {A : Type 0} (f : Stamp → A) (xs : List Stamp) (n : ℕ) (s : Stamp) (d : A) → 1 ≤ n → get_or (map f (xs ++ replicate n s)) (length (xs ++ replicate n s) - 1) d ≡ f s
+pub last_told : {A : Type 0} (f : Stamp → A) (xs : List Stamp) (n : ℕ) (s : Stamp) (d : A) → 1 ≤ n → get_or (map f (xs ++ replicate n s)) (length (xs ++ replicate n s) - 1) d ≡ f s
 last_told f xs n s d some =
     let at : length (xs ++ replicate n s) - 1 ≡ length xs + (n - 1) = omega (arith, length-append xs (replicate n s), length-replicate n s) in
     ap (λ i. get_or (map f (xs ++ replicate n s)) i d) at ∙ get_or_next f xs (replicate n s) (n - 1) d ∙ get_or-map-replicate f n (n - 1) s d (omega arith)
@@ -73,7 +76,7 @@ last_told f xs n s d some =
 -- What is told later does not change the lines that are answered.
 module _ (o : Origin) (before now : ℕ) (added more : List Stamp) where
   found_same : (at : ℕ) → at - 1 < length added → found_at (trace_from o now (added ++ more)) at ≡ found_at (trace_from o before added) at
-  found_same at lt = ap (site_found 1) (get_or_told reads_of added more (at - 1) (λ d. []) (λ d. []) lt)
+  found_same at lt = ap (site_found device_count) (get_or_told reads_of added more (at - 1) (λ d. []) (λ d. []) lt)
 
   module _ (failed since : Failures) (agree : (at : ℕ) → at < length added → since at ≡ failed at) where
     turn_same : (at : ℕ) (c : Condition) (r : Request) → at < length added → turn (trace_from o now (added ++ more)) since at c r ≡ turn (trace_from o before added) failed at c r
@@ -94,7 +97,13 @@ module _ (o : Origin) (before now : ℕ) (added more : List Stamp) where
 
 module _ (o : Origin) (now : ℕ) (added : List Stamp) (failed : Failures) (found : Site) where
   pub told-append : (done : List Request) (r : Request) → told_after o now added failed found (done ++ r ∷ []) ≡ advance (trace_from o now added) failed (told_after o now added failed found done) r
-  told-append done r = after-append (trace_from o now added) failed done (beginning found) r
+  told-append done r = after-append (trace_from o now added) failed done (r ∷ []) (beginning found)
+
+  -- the text of a line and of those behind it
+  pub text_ahead : (front rest : List Request) (r : Request) → length (told_after o now added failed found front).text < length (told_after o now added failed found (front ++ r ∷ rest)).text
+  text_ahead front rest r =
+      let p = told_after o now added failed found front in
+      omega (arith, ap (λ (q : Progress). length q.text) (after-append (trace_from o now added) failed front (r ∷ rest) (beginning found)), text_more (trace_from o now added) failed p r rest)
 
   pub told_line : (done : List Request) → (told_after o now added failed found done).line ≡ length done
   told_line done = omega (arith, line-after (trace_from o now added) failed done (beginning found))
@@ -104,7 +113,7 @@ module _ (o : Origin) (now : ℕ) (added : List Stamp) (failed : Failures) (foun
   told_nothing [] e = refl
   told_nothing (first ∷ done) e = absurd (omega (arith, e, text_more (trace_from o now added) failed (beginning found) first done))
 
-  told_some : (done : List Request) → 1 ≤ length done → 1 ≤ length (told_after o now added failed found done).text
+  pub told_some : (done : List Request) → 1 ≤ length done → 1 ≤ length (told_after o now added failed found done).text
   told_some [] some = absurd (omega arith)
   told_some (first ∷ done) some = omega (arith, text_more (trace_from o now added) failed (beginning found) first done)
 
@@ -128,11 +137,6 @@ one_or_none : (n : ℕ) → (1 ≤ n) ⊎ (n ≡ 0)
 one_or_none zero = inr refl
 one_or_none (suc n) = inl (omega arith)
 
--- an image stands for a condition, as the image of device 0 in a picture
-stands_first : (images : ℕ → List ℕ) (c : Condition) → HasCondition c (images 0) → HaveCondition 1 images c
-stands_first images (Up s) is = is
-stands_first images (Down sites) is = is
-
 take_behind : (xs ys : List ℕ) (k : ℕ) → take (length xs + k) (xs ++ ys) ≡ xs ++ take k ys
 take_behind [] ys k = ap (λ i. take i ys) (let e : 0 + k ≡ k = omega arith in e)
 take_behind (x ∷ xs) ys k = ap (λ i. take i (x ∷ (xs ++ ys))) (let e : suc (length xs) + k ≡ suc (length xs + k) = omega arith in e) ∙ ap (λ (l : List ℕ). x ∷ l) (take_behind xs ys k)
@@ -153,7 +157,7 @@ module _ {o : Origin} {found : Site} {failed : Failures} {done : List Request} {
   text = (told_after o mid.faults answered.added failed found done).text
 
   -- a step that gives nothing and after which the device stands for the same site
-  pub still_answered : (new : View) → new.streams.output ≡ mid.streams.output → new.streams.stamps ≡ mid.streams.stamps → new.faults ≡ mid.faults → site_found 1 new.reads ≡ site_found 1 mid.reads → IsAnswered o new found failed done c
+  pub still_answered : (new : View) → new.streams.output ≡ mid.streams.output → new.streams.stamps ≡ mid.streams.stamps → new.faults ≡ mid.faults → site_found device_count new.reads ≡ site_found device_count mid.reads → IsAnswered o new found failed done c
   still_answered new output stamps faults reads = record {
     added = answered.added;
     stamps = stamps ∙ answered.stamps;
@@ -173,12 +177,12 @@ module _ {o : Origin} {found : Site} {failed : Failures} {done : List Request} {
     agree : (at : ℕ) → at < length answered.added → since at ≡ failed at
     agree = agree_below o mid answered.added failed since answered.stamps on
 
-    -- these lines, by what is told later
-    told_still : told_after o new.faults (answered.added ++ more) since found done ≡ told_after o mid.faults answered.added failed found done
-    told_still = told_same o mid.faults new.faults answered.added more failed since agree found done (omega (arith, answered.long))
+    -- lines of these, by what is told later
+    pub told_still : (part : List Request) → length (told_after o mid.faults answered.added failed found part).text ≤ length answered.added → told_after o new.faults (answered.added ++ more) since found part ≡ told_after o mid.faults answered.added failed found part
+    told_still part le = told_same o mid.faults new.faults answered.added more failed since agree found part le
 
-    told_part : (k : ℕ) → told_after o new.faults (answered.added ++ more) since found (take k done) ≡ told_after o mid.faults answered.added failed found (take k done)
-    told_part k = told_same o mid.faults new.faults answered.added more failed since agree found (take k done) (omega (arith, answered.long, text-take (trace_from o mid.faults answered.added) failed k done (beginning found)))
+    pub told_all : told_after o new.faults (answered.added ++ more) since found done ≡ told_after o mid.faults answered.added failed found done
+    told_all = told_still done (omega (arith, answered.long))
 
     -- a picture of these lines, with lines behind them
     pub of_more : (rest : List Request) (p : Picture) → IsOfLines o mid found failed done p → IsOfLines o new found since (done ++ rest) p
@@ -187,13 +191,14 @@ module _ {o : Origin} {found : Site} {failed : Failures} {done : List Request} {
         let less : take (is.lines - 1) (done ++ rest) ≡ take (is.lines - 1) done = take-append-le (is.lines - 1) done rest (omega (arith, is.within)) in
         let added : is.added ≡ answered.added = append_cancel_left o.stamps is.added answered.added (sym is.stamps ∙ answered.stamps) in
         let at : (k : ℕ) → take k (done ++ rest) ≡ take k done → told_after o mid.faults is.added failed found (take k done) ≡ told_after o new.faults (answered.added ++ more) since found (take k (done ++ rest)) = λ k e.
-        ap (λ (l : List Stamp). told_after o mid.faults l failed found (take k done)) added ∙ sym (told_part k) ∙ ap (told_after o new.faults (answered.added ++ more) since found) (sym e) in
+        ap (λ (l : List Stamp). told_after o mid.faults l failed found (take k done)) added
+        ∙ sym (told_still (take k done) (omega (arith, answered.long, text-take (trace_from o mid.faults answered.added) failed k done (beginning found)))) ∙ ap (told_after o new.faults (answered.added ++ more) since found) (sym e) in
         record {
           added = answered.added ++ more;
           stamps = more_stamps o mid new answered.added more answered.stamps stamps;
           lines = is.lines;
           within = omega (arith, is.within, length-append done rest);
-          stand = subst (λ (q : Progress). HaveCondition 1 p.images q.condition) (at is.lines front) is.stand;
+          stand = subst (λ (q : Progress). HaveCondition device_count p.images q.condition) (at is.lines front) is.stand;
           given = is.given;
           gave = is.gave ∙ ap (λ (q : Progress). o.output ++ take is.given q.text) (at is.lines front);
           answered = subst (λ (q : Progress). length q.text ≤ is.given) (at (is.lines - 1) less) is.answered;
@@ -203,7 +208,7 @@ module _ {o : Origin} {found : Site} {failed : Failures} {done : List Request} {
     ran_more rest from ran = ran_weaker (IsOfLines o mid found failed done) (IsOfLines o new found since (done ++ rest)) from mid (of_more rest) ran
 
   -- a picture in which these lines are answered and nothing was done since
-  pub of_answered : (p : Picture) → HasCondition c (p.images 0) → p.output ≡ mid.streams.output → IsOfLines o mid found failed done p
+  pub of_answered : (p : Picture) → AreInCondition c p.images → p.output ≡ mid.streams.output → IsOfLines o mid found failed done p
   of_answered p stands output =
       let all : take (length done) done ≡ done = take_all (length done) done (omega arith) in
       let is : told_after o mid.faults answered.added failed found done ≡ told_after o mid.faults answered.added failed found (take (length done) done) = ap (told_after o mid.faults answered.added failed found) (sym all) in
@@ -212,14 +217,14 @@ module _ {o : Origin} {found : Site} {failed : Failures} {done : List Request} {
         stamps = answered.stamps;
         lines = length done;
         within = omega arith;
-        stand = stands_first p.images _ (subst (λ (x : Condition). HasCondition x (p.images 0)) (sym answered.condition ∙ ap (λ (q : Progress). q.condition) is) stands);
+        stand = subst (λ (x : Condition). AreInCondition x p.images) (sym answered.condition ∙ ap (λ (q : Progress). q.condition) is) stands;
         given = length text;
         gave = output ∙ answered.output ∙ ap (λ (t : List ℕ). o.output ++ t) (sym (take_all (length text) text (omega arith)) ∙ ap (λ (q : Progress). take (length text) q.text) is);
         answered = text-take (trace_from o mid.faults answered.added) failed (length done - 1) done (beginning found);
       }
 
   -- as it is told later, with lines behind them
-  pub of_answered_more : (new : View) (more : List Stamp) → new.streams.stamps ≡ mid.streams.stamps ++ more → (since : Failures) → GoesOn o mid failed since → (rest : List Request) (p : Picture) → HasCondition c (p.images 0) → p.output ≡ mid.streams.output
+  pub of_answered_more : (new : View) (more : List Stamp) → new.streams.stamps ≡ mid.streams.stamps ++ more → (since : Failures) → GoesOn o mid failed since → (rest : List Request) (p : Picture) → AreInCondition c p.images → p.output ≡ mid.streams.output
       → IsOfLines o new found since (done ++ rest) p
   of_answered_more new more stamps since on rest p stands output = of_more new more stamps since on rest p (of_answered p stands output)
 
@@ -270,47 +275,47 @@ module _ {o : Origin} {found : Site} {failed : Failures} {done : List Request} {
     pub told_next : told_after o new.faults (answered.added ++ more) since found (done ++ r ∷ []) ≡ told_turn text (length done) t
     told_next =
         told-append o new.faults (answered.added ++ more) since found done r
-        ∙ ap (λ (q : Progress). advance trace since q r) (told_still new more stamps since on)
+        ∙ ap (λ (q : Progress). advance trace since q r) (told_all new more stamps since on)
         ∙ ap (λ (x : Condition). told_turn text told.line (turn trace since (length text) x r)) answered.condition
         ∙ ap (told_turn text told.line) turn_now
         ∙ ap (λ k. told_turn text k t) (told_line o mid.faults answered.added failed found done)
 
     -- a picture in which the line is done and some first part of its answer is given
-    pub of_next : (p : Picture) (count : ℕ) → HasCondition t.condition (p.images 0) → p.output ≡ mid.streams.output ++ take count (line_text (length done) t.answer) → IsOfLines o new found since (done ++ r ∷ []) p
+    pub of_next : (p : Picture) (count : ℕ) → AreInCondition t.condition p.images → p.output ≡ mid.streams.output ++ take count (line_text (length done) t.answer) → IsOfLines o new found since (done ++ r ∷ []) p
     of_next p count stands output =
         let line = line_text (length done) t.answer in
         let all : take (length (done ++ r ∷ [])) (done ++ r ∷ []) ≡ done ++ r ∷ [] = take_all (length (done ++ r ∷ [])) (done ++ r ∷ []) (omega arith) in
-        let told_all : told_turn text (length done) t ≡ told_after o new.faults (answered.added ++ more) since found (take (length (done ++ r ∷ [])) (done ++ r ∷ []))
+        let told_lines : told_turn text (length done) t ≡ told_after o new.faults (answered.added ++ more) since found (take (length (done ++ r ∷ [])) (done ++ r ∷ []))
         = sym told_next ∙ ap (told_after o new.faults (answered.added ++ more) since found) (sym all) in
         let one : length (done ++ r ∷ []) - 1 ≡ length done = omega (arith, length-append done (r ∷ [])) in
         let front : take (length (done ++ r ∷ []) - 1) (done ++ r ∷ []) ≡ done = take_at done (r ∷ []) (length (done ++ r ∷ []) - 1) (sym one) in
         let told_front : told_after o mid.faults answered.added failed found done ≡ told_after o new.faults (answered.added ++ more) since found (take (length (done ++ r ∷ []) - 1) (done ++ r ∷ []))
-        = sym (told_still new more stamps since on) ∙ ap (told_after o new.faults (answered.added ++ more) since found) (sym front) in
+        = sym (told_all new more stamps since on) ∙ ap (told_after o new.faults (answered.added ++ more) since found) (sym front) in
         record {
           added = answered.added ++ more;
           stamps = more_stamps o mid new answered.added more answered.stamps stamps;
           lines = length (done ++ r ∷ []);
           within = omega arith;
-          stand = subst (λ (q : Progress). HaveCondition 1 p.images q.condition) told_all (stands_first p.images t.condition stands);
+          stand = subst (λ (q : Progress). HaveCondition device_count p.images q.condition) told_lines stands;
           given = length text + count;
           gave =
               output ∙ ap (λ (l : List ℕ). l ++ take count line) answered.output ∙ append_assoc o.output text (take count line)
-              ∙ ap (λ (l : List ℕ). o.output ++ l) (sym (take_behind text line count) ∙ ap (λ (q : Progress). take (length text + count) q.text) told_all);
+              ∙ ap (λ (l : List ℕ). o.output ++ l) (sym (take_behind text line count) ∙ ap (λ (q : Progress). take (length text + count) q.text) told_lines);
           answered = subst (λ (q : Progress). length q.text ≤ length text + count) told_front (let le : length text ≤ length text + count = omega arith in le);
         }
 
     -- the pictures of the line's device part
-    pub ran_only : (S : List ℕ → List ℕ → Type 0) (b : View) → Within 0 S (IsBeforeOrAfter c t) mid b → Ran (IsOfLines o new found since (done ++ r ∷ [])) mid b
-    ran_only S b within = ran_call (IsOfLines o new found since (done ++ r ∷ [])) 0 S (IsBeforeOrAfter c t) mid b within (λ p call. ⊎_elim
+    pub ran_only : (b : View) → WithinAll (AreBeforeOrAfter c t) mid b → Ran (IsOfLines o new found since (done ++ r ∷ [])) mid b
+    ran_only b within = ran_all (IsOfLines o new found since (done ++ r ∷ [])) (AreBeforeOrAfter c t) mid b within (λ p call. ⊎_elim
         (λ before. of_answered_more new more stamps since on (r ∷ []) p before call.output)
-        (λ after. of_next p 0 after (call.output ∙ sym (append-nil mid.streams.output))) call.own.now)
+        (λ after. of_next p 0 after (call.output ∙ sym (append-nil mid.streams.output))) call.images)
 
 -- A line: its device part, and then its answer.
 module _ {o : Origin} {found : Site} {failed : Failures} {done : List Request} {c : Condition} {a b : View} (answered : IsAnswered o a found failed done c) (r : Request) (t : Turn) (streams : b.streams ≡ a.streams)
     (fails : Bool) (cause : HasCauseOf (fails ≡ true) a.faults b.faults) (is : turn_at fails (found_at (trace_from o a.faults answered.added) (length answered.added)) c r ≡ t) where
   -- the line is done, and nothing of its answer is given
-  pub only_done : {S : List ℕ → List ℕ → Type 0} → Within 0 S (IsBeforeOrAfter c t) a b → RunsOver o found failed (done ++ r ∷ []) a b
-  only_done {S = S} within =
+  pub only_done : WithinAll (AreBeforeOrAfter c t) a b → RunsOver o found failed (done ++ r ∷ []) a b
+  only_done within =
       let stamps : b.streams.stamps ≡ a.streams.stamps ++ [] = ap (λ (s : Streams). s.stamps) streams ∙ sym (append-nil a.streams.stamps) in
       record {
         since = since answered r t b [] stamps b.faults refl fails cause refl is;
@@ -318,7 +323,7 @@ module _ {o : Origin} {found : Site} {failed : Failures} {done : List Request} {
         added = answered.added ++ [];
         stamps = more_stamps o a b answered.added [] answered.stamps stamps;
         failures = failures answered r t b [] stamps b.faults refl fails cause refl is;
-        ran = ran_only answered r t b [] stamps b.faults refl fails cause refl is S b within;
+        ran = ran_only answered r t b [] stamps b.faults refl fails cause refl is b within;
       }
 
   module _ {d : View} {k : ℕ} (same : d.faults ≡ b.faults) (given : IsGiven k (line_text (length done) t.answer) b d) where
@@ -328,19 +333,16 @@ module _ {o : Origin} {found : Site} {failed : Failures} {done : List Request} {
     abbrev more : List Stamp
     more = replicate k told_here
 
-    stamps : d.streams.stamps ≡ a.streams.stamps ++ more
+    pub stamps : d.streams.stamps ≡ a.streams.stamps ++ more
     stamps = given.stamps ∙ ap (λ (s : Streams). s.stamps ++ more) streams
 
-    first_told : (n : ℕ) → get_or (map faults_of (replicate n told_here)) 0 d.faults ≡ b.faults
+    pub first_told : (n : ℕ) → get_or (map faults_of (replicate n told_here)) 0 d.faults ≡ b.faults
     first_told zero = same
     first_told (suc n) = refl
 
     -- the steps that failed, with this line
     abbrev pub line_since : Failures
     line_since = next_choice failed (length answered.added) fails (trace_from o d.faults (answered.added ++ replicate k (stamp_now b)))
-
-    pub line_on : GoesOn o a failed line_since
-    line_on = on answered r t d more stamps b.faults (first_told k) fails cause same is
 
     pub line_stamps : d.streams.stamps ≡ o.stamps ++ (answered.added ++ more)
     line_stamps = more_stamps o a d answered.added more answered.stamps stamps
@@ -349,19 +351,33 @@ module _ {o : Origin} {found : Site} {failed : Failures} {done : List Request} {
     line_failures = failures answered r t d more stamps b.faults (first_told k) fails cause same is
 
     -- the pictures of the whole line
-    pub line_pictures : {S : List ℕ → List ℕ → Type 0} → Within 0 S (IsBeforeOrAfter c t) a b
-        → ((image : List ℕ) → b.may_leave 0 image → HasCondition t.condition image)
-        → ((dev : ℕ) (image : List ℕ) → d.may_leave dev image → b.may_leave dev image)
+    pub line_pictures : WithinAll (AreBeforeOrAfter c t) a b
+        → ((images : Images) → AreNow b images → AreInCondition t.condition images)
+        → HasNoNewImage b d
         → Ran (IsGiving (line_text (length done) t.answer) b d) b d
         → Ran (IsOfLines o d found line_since (done ++ r ∷ [])) a d
-    line_pictures {S = S} within stands none gives =
-        ran_on (IsOfLines o d found line_since (done ++ r ∷ [])) a b d (ran_only answered r t d more stamps b.faults (first_told k) fails cause same is S b within)
+    line_pictures within stands none gives =
+        ran_on (IsOfLines o d found line_since (done ++ r ∷ [])) a b d (ran_only answered r t d more stamps b.faults (first_told k) fails cause same is b within)
         (ran_weaker (IsGiving (line_text (length done) t.answer) b d) (IsOfLines o d found line_since (done ++ r ∷ [])) b d (λ p giving.
-        of_next answered r t d more stamps b.faults (first_told k) fails cause same is p giving.count (stands (p.images 0) (none 0 (p.images 0) (giving.images 0)))
+        of_next answered r t d more stamps b.faults (first_told k) fails cause same is p giving.count (stands p.images (λ dev. none dev (p.images dev) (giving.images dev)))
         (giving.output ∙ ap (λ (s : Streams). s.output ++ take giving.count (line_text (length done) t.answer)) streams)) gives)
 
+    abbrev pub line_over : WithinAll (AreBeforeOrAfter c t) a b
+        → ((images : Images) → AreNow b images → AreInCondition t.condition images)
+        → HasNoNewImage b d
+        → Ran (IsGiving (line_text (length done) t.answer) b d) b d
+        → RunsOver o found failed (done ++ r ∷ []) a d
+    line_over within stands none gives = record {
+      since = line_since;
+      on = on answered r t d more stamps b.faults (first_told k) fails cause same is;
+      added = answered.added ++ more;
+      stamps = line_stamps;
+      failures = line_failures;
+      ran = line_pictures within stands none gives;
+    }
+
     -- the whole answer is given
-    pub line_answered : k ≡ length (line_text (length done) t.answer) → site_found 1 d.reads ≡ site_found 1 b.reads → IsAnswered o d found line_since (done ++ r ∷ []) t.condition
+    pub line_answered : k ≡ length (line_text (length done) t.answer) → site_found device_count d.reads ≡ site_found device_count b.reads → IsAnswered o d found line_since (done ++ r ∷ []) t.condition
     line_answered whole reads =
         let line = line_text (length done) t.answer in
         let text = (told_after o a.faults answered.added failed found done).text in
@@ -390,5 +406,5 @@ module _ {o : Origin} {found : Site} {failed : Failures} {done : List Request} {
           );
           count = count_last (trace_from o d.faults (answered.added ++ more)) (length (answered.added ++ more)) (omega (arith, some, length-append answered.added more, length-replicate k told_here))
               ∙ last_told faults_of answered.added k told_here d.faults some ∙ sym same;
-          stood = λ le. ap (site_found 1) (last_told reads_of answered.added k told_here (λ dev. []) some) ∙ sym reads;
+          stood = λ le. ap (site_found device_count) (last_told reads_of answered.added k told_here (λ dev. []) some) ∙ sym reads;
         }

@@ -17,8 +17,8 @@ use Rattle.tq_run.specs.declared.planning.Planned.TheVariants as planned
 use Rattle.tq_run.specs.declared.calls.Reply.{Reply}
 
 -- what the space of a file makes of a call, by itself and with its log
-abbrev pub outcome_in : SpaceFile → SpaceCall → Arrival → SpaceOutcome
-outcome_in f call next = outcome_of call 0 next (space_of (held_in f))
+abbrev pub outcome_in : SpaceFile → SpaceCall → SpaceOutcome
+outcome_in f call = outcome_of call (space_of (held_in f))
 
 abbrev pub logged_outcome_in : SpaceFile → SpaceOutcome → LoggedOutcome
 logged_outcome_in f c = through_log (place_in f).pages (logged_in f) (space_of (held_in f)) c

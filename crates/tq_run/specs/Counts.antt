@@ -6,8 +6,67 @@ use Rattle.tq_spacefile.specs.declared.fault.FileError.{FileError}
 use Rattle.tq_spacefile.specs.declared.fault.FileError.TheVariants as files
 use Rattle.tq_run.specs.declared.status.BootFailure.{BootFailure}
 use Rattle.tq_run.specs.declared.status.BootFailure.TheVariants as boots
+use Rattle.tq_run.specs.declared.status.StartEnd.{StartEnd}
+use Rattle.tq_run.specs.declared.status.StartEnd.TheVariants as starts
+use Rattle.tq_run.specs.declared.status.ScriptEnd.{ScriptEnd}
+use Rattle.tq_run.specs.declared.status.ScriptEnd.TheVariants as scripts
+use Rattle.tq_run.specs.declared.status.ReadEnd.{ReadEnd}
+use Rattle.tq_run.specs.declared.status.ReadEnd.TheVariants as reads
+use Rattle.tq_run.specs.declared.status.TakeEnd.{TakeEnd}
+use Rattle.tq_run.specs.declared.status.TakeEnd.TheVariants as takes
+use Rattle.tq_run.specs.declared.status.LineEnd.{LineEnd}
+use Rattle.tq_run.specs.declared.status.LineEnd.TheVariants as lines
 use Rattle.tq_run.specs.declared.status.RunEnd.{RunEnd}
 use Rattle.tq_run.specs.declared.status.RunEnd.TheVariants.{Damaged, Memory, Input, Output, Device, TooMuchInput}
+
+-- How the parts of a run end
+
+abbrev pub start_end_of_boot : BootFailure → StartEnd
+start_end_of_boot boots.Damaged = starts.Damaged
+start_end_of_boot boots.Memory = starts.Memory
+start_end_of_boot boots.Device = starts.Device
+
+abbrev pub start_end_of_line : LineEnd → StartEnd
+start_end_of_line lines.Memory = starts.Memory
+start_end_of_line lines.Output = starts.Output
+
+abbrev pub read_end_of_take : TakeEnd → ReadEnd
+read_end_of_take takes.Memory = reads.Memory
+read_end_of_take takes.Input = reads.Input
+
+abbrev pub script_end_of_read : ReadEnd → ScriptEnd
+script_end_of_read reads.Memory = scripts.Memory
+script_end_of_read reads.Input = scripts.Input
+script_end_of_read reads.TooMuchInput = scripts.TooMuchInput
+
+abbrev pub script_end_of_line : LineEnd → ScriptEnd
+script_end_of_line lines.Memory = scripts.Memory
+script_end_of_line lines.Output = scripts.Output
+
+abbrev pub run_end_of_start : StartEnd → RunEnd
+run_end_of_start starts.Damaged = Damaged
+run_end_of_start starts.Memory = Memory
+run_end_of_start starts.Device = Device
+run_end_of_start starts.Output = Output
+
+abbrev pub run_end_of_script : ScriptEnd → RunEnd
+run_end_of_script scripts.Memory = Memory
+run_end_of_script scripts.Input = Input
+run_end_of_script scripts.Output = Output
+run_end_of_script scripts.TooMuchInput = TooMuchInput
+
+-- the same for ends of lines, and of reading
+abbrev pub run_end_of_line : LineEnd → RunEnd
+run_end_of_line end = run_end_of_script (script_end_of_line end)
+
+abbrev pub run_end_of_read : ReadEnd → RunEnd
+run_end_of_read end = run_end_of_script (script_end_of_read end)
+
+abbrev pub run_end_of_take : TakeEnd → RunEnd
+run_end_of_take end = run_end_of_read (read_end_of_take end)
+
+abbrev pub itself : RunEnd → RunEnd
+itself end = end
 
 -- a count rose, and did not fall
 pub record Rises (before now : ℕ) : Type 0 where
@@ -49,9 +108,10 @@ StopCounts Damaged old new = IsQuiet old new
 StopCounts Memory old new = IsQuiet old new
 StopCounts TooMuchInput old new = IsQuiet old new
 
-abbrev pub HasCounts : {T : Type 0} → Result T RunEnd → View → View → Type 0
-HasCounts (Ok x) old new = IsQuiet old new
-HasCounts (Err stop) old new = StopCounts stop old new
+-- a part of a run, whose ends are ends of a run by `end_of`
+abbrev pub HasCounts : {T E : Type 0} → (E → RunEnd) → Result T E → View → View → Type 0
+HasCounts end_of (Ok x) old new = IsQuiet old new
+HasCounts end_of (Err stop) old new = StopCounts (end_of stop) old new
 
 -- No stream failed; devices may have.
 pub record IsCalm (old new : View) : Type 0 where
@@ -78,9 +138,9 @@ RunStopCounts Damaged old new = IsQuiet old new
 RunStopCounts Memory old new = IsCalm old new
 RunStopCounts TooMuchInput old new = IsCalm old new
 
-abbrev pub HasRunCounts : {T : Type 0} → Result T RunEnd → View → View → Type 0
-HasRunCounts (Ok x) old new = IsCalm old new
-HasRunCounts (Err stop) old new = RunStopCounts stop old new
+abbrev pub HasRunCounts : {T E : Type 0} → (E → RunEnd) → Result T E → View → View → Type 0
+HasRunCounts end_of (Ok x) old new = IsCalm old new
+HasRunCounts end_of (Err stop) old new = RunStopCounts (end_of stop) old new
 
 -- ---- Boots
 
@@ -88,12 +148,6 @@ abbrev pub boot_failure_of : FileError → BootFailure
 boot_failure_of files.Damaged = boots.Damaged
 boot_failure_of files.Device = boots.Device
 boot_failure_of files.NoMemory = boots.Memory
-
--- what ends a run whose first boot fails
-abbrev pub end_after_boot : BootFailure → RunEnd
-end_after_boot boots.Damaged = Damaged
-end_after_boot boots.Memory = Memory
-end_after_boot boots.Device = Device
 
 -- the count of device failures rose where a device failed, and nowhere else
 abbrev pub CountsBoot : {T : Type 0} → Result T BootFailure → ℕ → ℕ → Type 0

@@ -1,27 +1,31 @@
 -- What a run comes to.
 use Rattle.std.specs.Prelude.{◌≡◌, ℕ, true, false, Result, Ok, Err, List, [], ◌∷◌, ◌++◌, map}
-use Rattle.tq_host.specs.View.{View, Stamp, Told}
+use Rattle.tq_host.specs.View.{View, Stamp, Told, Images}
 use Rattle.tq_model.specs.declared.request.Request.TheVariants.{Boot}
 use Rattle.tq_model.specs.Site.{Site}
 use Rattle.tq_model.specs.Grammar.{script_requests}
 use Rattle.tq_model.specs.MachineWithFaults.{Trace, Failures, Progress, beginning, after, rose_at, HaveCondition}
-use Rattle.tq_model.specs.Reading.{site_found}
+use Rattle.tq_model.specs.Reading.{Combined, Stands, FirstDamaged, below, reading, combined, site_found}
 use Rattle.tq_run.specs.declared.status.Status.{Status}
 use Rattle.tq_run.specs.declared.status.Status.TheVariants as status
 use Rattle.tq_run.specs.declared.status.RunEnd.{RunEnd}
 use Rattle.tq_run.specs.declared.status.RunEnd.TheVariants.{Damaged, Memory, Input, Output, Device, TooMuchInput}
 use Rattle.tq_run.specs.Failures.{AreFailures}
 use Rattle.tq_run.specs.Manager.{is_bootable}
+use Rattle.tq_run.specs.Words.{device_count}
+use Rattle.tq_run.specs.Turns.{origin_of}
+use Rattle.tq_run.specs.Idle.{AreIdleLines}
 
--- what the host tells of a run over one device, in which these stamps came
+-- what the host tells of a run in which these stamps came
 abbrev pub trace_of : View → View → List Stamp → Trace
-trace_of start now added = record { devices = 1; before = start.faults; counts = map (λ (s : Stamp). s.faults) added; reads = map (λ (s : Stamp). s.reads) added; after = now.faults }
+trace_of start now added = record { devices = device_count; before = start.faults; counts = map (λ (s : Stamp). s.faults) added; reads = map (λ (s : Stamp). s.reads) added; after = now.faults }
 
 -- the machine at the end of a run over a script, line 0 being a boot of the site that was found
 abbrev pub machine_at_end : Trace → Failures → Site → List ℕ → Progress
 machine_at_end trace failed found script = after trace failed (beginning found) (Boot ∷ script_requests script)
 
--- A run that is done: the script is read to its end, the output is the machine's text, and the devices stand for its state.
+-- A run that is done: the script is read to its end, the output is the machine's text, the devices stand for its state, and
+-- idle lines made no call.
 pub record IsDone (start now : View) (found : Site) : Type 0 where
   pub added : List Stamp
   pub stamps : now.streams.stamps ≡ start.streams.stamps ++ added
@@ -29,17 +33,25 @@ pub record IsDone (start now : View) (found : Site) : Type 0 where
   pub failures : AreFailures (trace_of start now added) failed
   pub script : now.streams.script ≡ []
   pub output : now.streams.output ≡ start.streams.output ++ (machine_at_end (trace_of start now added) failed found start.streams.script).text
-  pub devices : HaveCondition 1 now.reads (machine_at_end (trace_of start now added) failed found start.streams.script).condition
+  pub devices : HaveCondition device_count now.reads (machine_at_end (trace_of start now added) failed found start.streams.script).condition
+  pub idle : AreIdleLines (origin_of start) now.faults added failed found (Boot ∷ script_requests start.streams.script)
 
 -- nothing was written and nothing given
 pub record IsUntouched (start now : View) : Type 0 where
   pub reads : (d : ℕ) → now.reads d ≡ start.reads d
   pub streams : now.streams ≡ start.streams
 
--- device 0 alone can be damaged
+-- the device that is to blame: the first that is damaged, or device 0, whose epoch cannot be raised
+abbrev pub blamed : Combined → ℕ
+blamed (FirstDamaged d) = d
+blamed (Stands s) = 0
+
+abbrev pub blamed_in : ℕ → Images → ℕ
+blamed_in devices images = blamed (combined (map (λ d. reading d (images d)) (below devices)))
+
 pub record IsDamaged (tells : Told) (d : ℕ) (start now : View) : Type 0 where
-  pub first : d ≡ 0
-  pub cause : tells.reads → is_bootable (site_found 1 start.reads) ≡ false
+  pub first : d ≡ blamed_in device_count start.reads
+  pub cause : tells.reads → is_bootable (site_found device_count start.reads) ≡ false
   pub untouched : IsUntouched start now
 
 -- Where a device failed in line 0, by what is told of the output, the run ended so and nothing was given.

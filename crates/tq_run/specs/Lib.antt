@@ -12,4 +12,5 @@ pub mod SpaceCalls
 pub mod Calls
 pub mod Serving
 pub mod Turns
+pub mod Idle
 pub mod Standing

@@ -1,5 +1,5 @@
 -- What the manager holds in memory, as the machine's site.
-use Rattle.std.specs.Prelude.{◌≡◌, ◌<◌, ◌+◌, ◌*◌, ℕ, Bool, true, false, List, [], ◌∷◌, length, Option, Some, None, option_map}
+use Rattle.std.specs.Prelude.{◌≡◌, ◌<◌, ℕ, Bool, true, false, List, [], ◌∷◌, length, Option, Some, None, option_map}
 use Rattle.tq_host.specs.View.{View}
 use Rattle.tq_model.specs.declared.answer.Identity.{Identity}
 use Rattle.tq_model.specs.Moves.{IndexedSpace, space_of}
@@ -15,6 +15,7 @@ use Rattle.tq_spacefile.specs.declared.file.SpaceFile.{SpaceFile}
 use Rattle.tq_spacefile.specs.File.{IsFile, place_in, held_in, logged_in}
 use Rattle.tq_run.specs.declared.site.Manager.{Manager}
 use Rattle.tq_run.specs.Together.{place_of}
+use Rattle.tq_run.specs.Words.{device_count}
 
 -- The site
 
@@ -101,7 +102,7 @@ pub record IsRaised (d : DeviceContent) (file : Option SpaceFile) (m : Manager) 
 -- after a boot of what the devices stood for
 pub record IsBooted (m : Manager) (old new : View) : Type 0 where
   pub found : Site
-  pub stood : site_found 1 old.reads ≡ Some found
+  pub stood : site_found device_count old.reads ≡ Some found
   pub raisable : can_boot found ≡ true
   pub site : site_of m ≡ booted found
   pub stands : ImageMatches m (new.reads 0)

@@ -1,15 +1,14 @@
 -- What a served request promises, in memory and on the device.
 use Rattle.std.specs.Prelude.{◌≡◌, ◌≤◌, ℕ, ◌+◌, Result, Ok, Err}
 use Rattle.tq_host.specs.View.{View}
-use Rattle.tq_host.specs.Within.{Within, KeepsRest}
-use Rattle.tq_device.specs.Content.{IsAnyStep}
+use Rattle.tq_host.specs.Within.{WithinAll, KeepsRest}
 use Rattle.tq_model.specs.declared.answer.Answer.{Answer}
 use Rattle.tq_model.specs.Step.{Outcome}
 use Rattle.tq_run.specs.declared.status.Failure.{Failure}
 use Rattle.tq_run.specs.declared.status.Failure.TheVariants.{Memory, Device}
 use Rattle.tq_run.specs.declared.site.Manager.{Manager}
 use Rattle.tq_run.specs.Manager.{site_of}
-use Rattle.tq_run.specs.Stops.{ImagesMatch, IsEither}
+use Rattle.tq_run.specs.Stops.{ImagesMatch, AreEither}
 use Rattle.tq_run.specs.Counts.{Rises}
 
 -- The answer and the site are those of the machine's step; each image that a stop may leave has the site.
@@ -19,9 +18,9 @@ pub record IsServed (o : Outcome) (m m' : Manager) (now : View) (a : Answer) : T
   pub next : m'.next ≤ m.next + 1
   pub images : ImagesMatch m' now
 
--- In each picture the device has the site before the step, or the one after it; the rest of the outside is as it was.
+-- In each picture the devices stand for the site before the step, or for the one after it; the rest of the outside is as it was.
 pub record ChangesOnce (o : Outcome) (m : Manager) (old new : View) : Type 0 where
-  pub within : Within 0 IsAnyStep (IsEither (site_of m) o.site) old new
+  pub within : WithinAll (AreEither (site_of m) o.site) old new
   pub attached : new.attached ≡ old.attached
 
 -- the count of device failures rose where a device failed, and nowhere else

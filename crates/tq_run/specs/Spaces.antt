@@ -3,7 +3,7 @@ use Rattle.std.specs.Prelude.{◌≡◌, ◌<◌, ◌≤◌, ◌+◌, ◌⊎◌,
 use Rattle.tq_model.specs.declared.space.Shape.{Shape}
 use Rattle.tq_model.specs.declared.request.SpaceCreation.{SpaceCreation}
 use Rattle.tq_model.specs.Space.{overhead_pages}
-use Rattle.tq_model.specs.Site.{clusters_for}
+use Rattle.tq_model.specs.Site.{clusters_for, last_space, most_pages, most_queues, most_transactions, most_messages, most_memory}
 use Rattle.tq_model.specs.Step.{space_refusal, field_refused, shape_asked}
 use Rattle.tq_model.specs.Parts.{IsPart}
 use Rattle.tq_device.specs.declared.content.DeviceContent.{DeviceContent}
@@ -15,11 +15,11 @@ use Rattle.tq_run.specs.Manager.{site_of}
 
 -- a shape within the limits of spaces
 pub record IsShape (s : Shape) : Type 0 where
-  pub queues : (1 ≤ s.queues) × (s.queues ≤ 256)
-  pub messages : (1 ≤ s.messages) × (s.messages ≤ 8192)
-  pub transactions : (1 ≤ s.transactions) × (s.transactions ≤ 64)
-  pub memory : s.memory ≤ 16777216
-  pub pages : (overhead_pages s < s.pages) × (s.pages ≤ 262016)
+  pub queues : (1 ≤ s.queues) × (s.queues ≤ most_queues)
+  pub messages : (1 ≤ s.messages) × (s.messages ≤ most_messages)
+  pub transactions : (1 ≤ s.transactions) × (s.transactions ≤ most_transactions)
+  pub memory : s.memory ≤ most_memory
+  pub pages : (overhead_pages s < s.pages) × (s.pages ≤ most_pages)
 
 -- Nothing refuses the creation, on the device of this content.
 pub record IsAdmitted (m : Manager) (c : SpaceCreation) (d : DeviceContent) : Type 0 where
@@ -28,7 +28,7 @@ pub record IsAdmitted (m : Manager) (c : SpaceCreation) (d : DeviceContent) : Ty
   pub granted : space_refusal c (site_of m) ≡ None
   pub fields : field_refused c ≡ None
   pub bare : d.named ≡ None
-  pub ordinal : d.next_space < 268435455
+  pub ordinal : d.next_space < last_space
   pub large : overhead_pages (shape_asked c) < c.pages
   pub clusters : 4 + clusters_for c.pages ≤ d.clusters
 

@@ -1,32 +1,36 @@
 -- What a stop leaves within the parts of a run.
-use Rattle.std.specs.Prelude.{◌≡◌, ◌⊎◌, ◌≤◌, ℕ, ◌+◌, ◌-◌, List, ◌++◌, length, take, Some, true, Any}
-use Rattle.tq_host.specs.View.{View, Picture, Stamp, AreNow}
-use Rattle.tq_model.specs.Site.{Site, durable}
-use Rattle.tq_model.specs.Reading.{site_found}
+use Rattle.std.specs.Prelude.{◌≡◌, ◌⊎◌, ◌≤◌, ℕ, ◌+◌, ◌-◌, List, ◌++◌, length, take, true, Any}
+use Rattle.tq_host.specs.View.{View, Picture, Stamp, Images, AreNow}
+use Rattle.tq_model.specs.Site.{Site}
 use Rattle.tq_model.specs.Step.{can_boot, booted}
 use Rattle.tq_run.specs.declared.site.Manager.{Manager}
 use Rattle.tq_run.specs.Manager.{ImageMatches}
 use Rattle.tq_model.specs.Grammar.{script_requests}
-use Rattle.tq_model.specs.MachineWithFaults.{Trace, Failures, HaveCondition, machine_after}
+use Rattle.tq_model.specs.MachineWithFaults.{Trace, Failures, HaveSite, HaveCondition, machine_after}
 use Rattle.tq_run.specs.Ending.{trace_of}
 use Rattle.tq_run.specs.Failures.{AreFailures}
+use Rattle.tq_run.specs.Words.{device_count}
 
--- an image of device 0 stands for a site
-abbrev pub HasSite : Site → List ℕ → Type 0
-HasSite s image = site_found 1 (λ d. image) ≡ Some (durable s)
+-- the images of all devices stand for a site
+abbrev pub ImagesHave : Site → Images → Type 0
+ImagesHave s images = HaveSite device_count images s
 
-abbrev pub IsEither : Site → Site → List ℕ → Type 0
-IsEither s t image = HasSite s image ⊎ HasSite t image
+-- they stand for one of these sites
+abbrev pub ImagesHaveAny : List Site → Images → Type 0
+ImagesHaveAny sites images = Any (HaveSite device_count images) sites
 
--- an image has what was found, or the boot of it
-abbrev pub IsFoundOrBooted : Site → List ℕ → Type 0
-IsFoundOrBooted found image = HasSite found image ⊎ ((can_boot found ≡ true) × HasSite (booted found) image)
+abbrev pub AreEither : Site → Site → Images → Type 0
+AreEither s t images = ImagesHave s images ⊎ ImagesHave t images
 
--- an image has a site of these, or the boot of the one that was found
-abbrev pub IsOldOrBooted : List Site → Site → List ℕ → Type 0
-IsOldOrBooted sites found image = Any (λ s. HasSite s image) sites ⊎ ((can_boot found ≡ true) × HasSite (booted found) image)
+-- they stand for what was found, or for the boot of it
+abbrev pub AreFoundOrBooted : Site → Images → Type 0
+AreFoundOrBooted found images = ImagesHave found images ⊎ ((can_boot found ≡ true) × ImagesHave (booted found) images)
 
--- each image that a stop may leave of device 0 has what the manager holds
+-- they stand for a site of these, or for the boot of the one that was found
+abbrev pub AreOldOrBooted : List Site → Site → Images → Type 0
+AreOldOrBooted sites found images = ImagesHaveAny sites images ⊎ ((can_boot found ≡ true) × ImagesHave (booted found) images)
+
+-- each image that a stop may leave of the manager's device has what the manager holds of it
 abbrev pub ImagesMatch : Manager → View → Type 0
 ImagesMatch m v = (c : List ℕ) → v.may_leave 0 c → ImageMatches m c
 
@@ -49,7 +53,7 @@ pub record IsLeftAlone (start now : View) : Type 0 where
 pub record IsOfRun (start : View) (trace : Trace) (failed : Failures) (found : Site) (p : Picture) : Type 0 where
   pub lines : ℕ
   pub within : lines ≤ 1 + length (script_requests start.streams.script)
-  pub stand : HaveCondition 1 p.images (machine_after trace failed found (script_requests start.streams.script) lines).condition
+  pub stand : HaveCondition device_count p.images (machine_after trace failed found (script_requests start.streams.script) lines).condition
   pub given : ℕ
   pub gave : p.output ≡ start.streams.output ++ take given (machine_after trace failed found (script_requests start.streams.script) lines).text
   pub answered : length (machine_after trace failed found (script_requests start.streams.script) (lines - 1)).text ≤ given

@@ -1,26 +1,27 @@
 -- Lines of a run, by what the host tells: the machine with faults after those that are answered, and the pictures of a part of the run.
 use Rattle.std.specs.Prelude.{◌≡◌, ◌⊎◌, ◌<◌, ◌≤◌, ℕ, ◌+◌, ◌-◌, Bool, false, List, ◌++◌, length, map, take}
-use Rattle.tq_host.specs.View.{View, Stamp, Picture}
+use Rattle.tq_host.specs.View.{View, Stamp, Picture, Images}
 use Rattle.tq_host.specs.Within.{Ran}
 use Rattle.tq_model.specs.declared.request.Request.{Request}
 use Rattle.tq_model.specs.Site.{Site}
 use Rattle.tq_model.specs.Reading.{site_found}
 use Rattle.tq_model.specs.MachineWithFaults.{Condition, Trace, Failures, Turn, Progress, count_before, found_at, turn_at, beginning, after, HaveCondition}
 use Rattle.tq_run.specs.Failures.{AreFailures}
+use Rattle.tq_run.specs.Words.{device_count}
 
 -- One line
 
--- an image of device 0 stands for a condition
-abbrev pub HasCondition : Condition → List ℕ → Type 0
-HasCondition c image = HaveCondition 1 (λ d. image) c
+-- the images of all devices stand for a condition
+abbrev pub AreInCondition : Condition → Images → Type 0
+AreInCondition c images = HaveCondition device_count images c
 
--- the turn of a request: whether a device failed in it, and what device 0 read before it
-abbrev pub turn_between : Bool → (ℕ → List ℕ) → Condition → Request → Turn
-turn_between failed reads c request = turn_at failed (site_found 1 reads) c request
+-- the turn of a request: whether a device failed in it, and what the devices read before it
+abbrev pub turn_between : Bool → Images → Condition → Request → Turn
+turn_between failed reads c request = turn_at failed (site_found device_count reads) c request
 
--- an image stands for the condition before a turn, or after it
-abbrev pub IsBeforeOrAfter : Condition → Turn → List ℕ → Type 0
-IsBeforeOrAfter c t image = HasCondition c image ⊎ HasCondition t.condition image
+-- the images stand for the condition before a turn, or after it
+abbrev pub AreBeforeOrAfter : Condition → Turn → Images → Type 0
+AreBeforeOrAfter c t images = AreInCondition c images ⊎ AreInCondition t.condition images
 
 -- Lines
 
@@ -35,7 +36,7 @@ origin_of v = record { faults = v.faults; output = v.streams.output; stamps = v.
 
 -- what the host has told, when the device count is this one and these stamps came
 abbrev pub trace_from : Origin → ℕ → List Stamp → Trace
-trace_from o now added = record { devices = 1; before = o.faults; counts = map (λ (s : Stamp). s.faults) added; reads = map (λ (s : Stamp). s.reads) added; after = now }
+trace_from o now added = record { devices = device_count; before = o.faults; counts = map (λ (s : Stamp). s.faults) added; reads = map (λ (s : Stamp). s.reads) added; after = now }
 
 -- the machine after these requests, by what was told and the steps that failed
 abbrev pub told_after : Origin → ℕ → List Stamp → Failures → Site → List Request → Progress
@@ -50,16 +51,16 @@ pub record IsAnswered (o : Origin) (now : View) (found : Site) (failed : Failure
   pub output : now.streams.output ≡ o.output ++ (told_after o now.faults added failed found done).text
   pub long : length added ≡ length (told_after o now.faults added failed found done).text
   pub count : count_before (trace_from o now.faults added) (length added) ≡ now.faults
-  pub stood : 1 ≤ length added → found_at (trace_from o now.faults added) (length added) ≡ site_found 1 now.reads
+  pub stood : 1 ≤ length added → found_at (trace_from o now.faults added) (length added) ≡ site_found device_count now.reads
 
--- A picture of a run: after some number of these requests the device stands for the machine's condition, and the output is a
+-- A picture of a run: after some number of these requests the devices stand for the machine's condition, and the output is a
 -- first part of the text of these that has all but an end of the last one.
 pub record IsOfLines (o : Origin) (now : View) (found : Site) (failed : Failures) (requests : List Request) (p : Picture) : Type 0 where
   pub added : List Stamp
   pub stamps : now.streams.stamps ≡ o.stamps ++ added
   pub lines : ℕ
   pub within : lines ≤ length requests
-  pub stand : HaveCondition 1 p.images (told_after o now.faults added failed found (take lines requests)).condition
+  pub stand : HaveCondition device_count p.images (told_after o now.faults added failed found (take lines requests)).condition
   pub given : ℕ
   pub gave : p.output ≡ o.output ++ take given (told_after o now.faults added failed found (take lines requests)).text
   pub answered : length (told_after o now.faults added failed found (take (lines - 1) requests)).text ≤ given

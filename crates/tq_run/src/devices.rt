@@ -4,7 +4,7 @@ ghost use Rattle.tq_model.specs.Step.{device_step, creation_refusal, create_devi
 ghost use Rattle.tq_run.specs.Stops.{ImagesMatch};
 ghost use Rattle.tq_run.specs.Manager.{site_of, placed_in, placed_of, volume_in};
 ghost use Rattle.tq_run.specs.Serving.{IsServed, ChangesOnce, CountsFailure};
-ghost use Rattle.tq_model.specs.Site.{capacity_of, clusters_for, space_count, spaces_on};
+ghost use Rattle.tq_model.specs.Site.{durable, capacity_of, clusters_for, space_count, spaces_on};
 ghost use Rattle.tq_model.specs.Parts.{first_extents};
 ghost use Rattle.tq_model.specs.Step.{space_line};
 
@@ -15,7 +15,7 @@ use tq_device::{DeviceContent, NamedSpace, create};
 use tq_host::{Failed, Host};
 use tq_model::{
     Answer, Capacity, Creation, DeviceAnswer, DeviceRequest, Extent, Extents, Field, Identity,
-    Listing, Readiness, SpaceLine, SpaceLines,
+    LEAST_CLUSTERS, Listing, MOST_CLUSTERS, Readiness, SpaceLine, SpaceLines,
 };
 use tq_spacefile::SpaceFile;
 
@@ -78,7 +78,9 @@ fn refusal(manager: &Manager, creation: &Creation) -> Option<DeviceAnswer>
     if manager.content.is_some() {
         return Some(DeviceAnswer::Exists);
     }
-    if creation.clusters < 5 || creation.clusters > 8192 {
+    if creation.clusters < u64::from(LEAST_CLUSTERS)
+        || creation.clusters > u64::from(MOST_CLUSTERS)
+    {
         return Some(DeviceAnswer::Range(Field::Clusters));
     }
     let site = site_number(creation);
@@ -167,6 +169,7 @@ fn create_device<H: Host>(
     ensures served { IfOk result (IsServed (create_device creation.now (site_of manager.old)) manager.old manager.new (H.view host.new)) }
     ensures stop { ChangesOnce (create_device creation.now (site_of manager.old)) manager.old (H.view host.old) (H.view host.new) }
     ensures failed { HasCause (H.view host.old).faults (H.view host.new).faults result }
+    ensures idle { durable (create_device creation.now (site_of manager.old)).site ≡ durable (site_of manager.old) → host.new ≡ host.old }
 {
     if let Some(refusal) = refusal(manager, creation) {
         return Ok(Answer::Device(refusal));
@@ -193,6 +196,7 @@ pub fn serve_device<H: Host>(
     ensures served { IfOk result (IsServed (device_step (site_of manager.old) request.now) manager.old manager.new (H.view host.new)) }
     ensures stop { ChangesOnce (device_step (site_of manager.old) request.now) manager.old (H.view host.old) (H.view host.new) }
     ensures failed { CountsFailure result (H.view host.old).faults (H.view host.new).faults }
+    ensures idle { durable (device_step (site_of manager.old) request.now).site ≡ durable (site_of manager.old) → host.new ≡ host.old }
 {
     match request {
         DeviceRequest::Create(creation) => Ok(create_device(host, manager, creation)?),

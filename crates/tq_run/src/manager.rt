@@ -1,15 +1,16 @@
-ghost use Rattle.std.specs.Prelude.{◌≡◌, ◌≢◌, ◌<◌, ◌≤◌, ◌+◌, List, ℕ, false, IfOk, IfErr, OnOk, Any, Some, None};
-ghost use Rattle.tq_host.specs.View.{IsSettled};
-ghost use Rattle.tq_host.specs.Within.{KeepsRest, Within};
+ghost use Rattle.std.specs.Prelude.{◌≡◌, ◌≢◌, ◌<◌, ◌≤◌, ◌+◌, List, ℕ, false, IfOk, IfErr, OnOk, Some, None};
+ghost use Rattle.tq_host.specs.View.{Images, AreNow, IsSettled, AreSettled};
+ghost use Rattle.tq_host.specs.Within.{KeepsRest, KeepsBeside, Within, WithinAll};
 ghost use Rattle.tq_model.specs.Site.{Site};
 ghost use Rattle.tq_model.specs.Step.{can_boot};
 ghost use Rattle.tq_model.specs.Reading.{site_found};
-ghost use Rattle.tq_device.specs.Content.{IsFoundOn, IsFoundWithin, IsWithin, HasContent, IsSameImage, IsAny, IsAnyStep};
+ghost use Rattle.tq_device.specs.Content.{IsFoundOn, IsFoundWithin, IsWithin, HasContent, IsSameImage, IsAny};
 ghost use Rattle.tq_host.specs.Calls.{HasCause};
 ghost use Rattle.tq_run.specs.Counts.{CountsBoot};
-ghost use Rattle.tq_run.specs.Stops.{HasNoNewImage, ImagesMatch, HasSite, IsFoundOrBooted, IsOldOrBooted};
+ghost use Rattle.tq_run.specs.Stops.{HasNoNewImage, ImagesMatch, ImagesHaveAny, AreFoundOrBooted, AreOldOrBooted};
 ghost use Rattle.tq_run.specs.Manager.{is_bootable, IsBooted, IsLoaded, IsRaised, loaded_site};
 ghost use Rattle.tq_run.specs.Together.{place_of, IsTogether};
+ghost use Rattle.tq_run.specs.Words.{device_count};
 
 use crate::site::Manager;
 use crate::status::BootFailure;
@@ -56,7 +57,7 @@ fn load_space<H: Host>(
     requires holds { H.tells.reads → HasContent content.now ((H.view host.old).reads 0) }
     ensures fit { IfOk result (λ file. IsTogether (Some content.now) file) }
     ensures loaded { IfOk result (λ file. H.tells.reads → IsLoaded content.now file ((H.view host.old).reads 0)) }
-    ensures damaged { result ≡ Err BootFailure.Damaged → H.tells.reads → site_found 1 (H.view host.old).reads ≡ None }
+    ensures damaged { result ≡ Err BootFailure.Damaged → H.tells.reads → site_found device_count (H.view host.old).reads ≡ None }
     ensures still { (d : ℕ) → (H.view host.new).reads d ≡ (H.view host.old).reads d }
     ensures stop { Within 0 IsSameImage IsAny (H.view host.old) (H.view host.new) }
     ensures images { HasNoNewImage (H.view host.old) (H.view host.new) }
@@ -86,7 +87,7 @@ fn raise<H: Host>(
     ensures untouched { result ≡ Err BootFailure.Damaged → host.new ≡ host.old }
     ensures left_alone { can_boot (loaded_site content.now file) ≡ false → host.new ≡ host.old }
     ensures stop { ((c : List ℕ) → (H.view host.old).may_leave 0 c → IsLoaded content.now file c)
-        → Within 0 IsAnyStep (IsFoundOrBooted (loaded_site content.now file)) (H.view host.old) (H.view host.new) }
+        → WithinAll (AreFoundOrBooted (loaded_site content.now file)) (H.view host.old) (H.view host.new) }
     ensures on { IfOk result (λ m. ImagesMatch m (H.view host.new)) }
     ensures failed { CountsBoot result (H.view host.old).faults (H.view host.new).faults }
     ensures rest { KeepsRest 0 (H.view host.old) (H.view host.new) }
@@ -104,6 +105,7 @@ fn raise<H: Host>(
 }
 
 // A boot of what was found.
+#[tactic(auto, using(crate::proofs::LeftAloneLemmas::left_alone))]
 fn boot_content<H: Host>(
     alloc: Global,
     host: &mut H,
@@ -113,14 +115,14 @@ fn boot_content<H: Host>(
     requires holds { H.tells.reads → HasContent content.now ((H.view host.old).reads 0) }
     ensures first { IfOk result (λ m. m.next ≡ 0) }
     ensures booted { IfOk result (λ m. H.tells.reads → IsBooted m (H.view host.old) (H.view host.new)) }
-    ensures damaged { result ≡ Err BootFailure.Damaged → H.tells.reads → is_bootable (site_found 1 (H.view host.old).reads) ≡ false }
+    ensures damaged { result ≡ Err BootFailure.Damaged → H.tells.reads → is_bootable (site_found device_count (H.view host.old).reads) ≡ false }
     ensures untouched { result ≡ Err BootFailure.Damaged → (d : ℕ) → (H.view host.new).reads d ≡ (H.view host.old).reads d }
-    ensures stop { H.tells.reads → IsSettled 0 (H.view host.old) → (found : Site) → site_found 1 (H.view host.old).reads ≡ Some found
-        → Within 0 IsAnyStep (IsFoundOrBooted found) (H.view host.old) (H.view host.new) }
+    ensures stop { H.tells.reads → AreSettled device_count (H.view host.old) → (found : Site) → site_found device_count (H.view host.old).reads ≡ Some found
+        → WithinAll (AreFoundOrBooted found) (H.view host.old) (H.view host.new) }
     ensures images { result ≡ Err BootFailure.Damaged → HasNoNewImage (H.view host.old) (H.view host.new) }
-    ensures left_alone { H.tells.reads → is_bootable (site_found 1 (H.view host.old).reads) ≡ false
-        → Within 0 IsSameImage IsAny (H.view host.old) (H.view host.new) }
-    ensures memory { result ≡ Err BootFailure.Memory → Within 0 IsSameImage IsAny (H.view host.old) (H.view host.new) }
+    ensures left_alone { H.tells.reads → is_bootable (site_found device_count (H.view host.old).reads) ≡ false
+        → WithinAll (AreNow (H.view host.old)) (H.view host.old) (H.view host.new) }
+    ensures memory { result ≡ Err BootFailure.Memory → WithinAll (AreNow (H.view host.old)) (H.view host.old) (H.view host.new) }
     ensures on { IfOk result (λ m. ImagesMatch m (H.view host.new)) }
     ensures failed { CountsBoot result (H.view host.old).faults (H.view host.new).faults }
     ensures rest { KeepsRest 0 (H.view host.old) (H.view host.new) }
@@ -131,22 +133,23 @@ fn boot_content<H: Host>(
 
 /// A boot: finds what device 0 stands for, makes it what a stop leaves, and raises its epoch. All
 /// memory is taken before the device is written to.
+#[tactic(auto, using(crate::proofs::LeftAloneLemmas::left_alone))]
 pub fn boot<H: Host>(alloc: Global, host: &mut H) -> Result<Manager, BootFailure>
     ensures first { IfOk result (λ m. m.next ≡ 0) }
     ensures booted { IfOk result (λ m. H.tells.reads → IsBooted m (H.view host.old) (H.view host.new)) }
-    ensures damaged { result ≡ Err BootFailure.Damaged → H.tells.reads → is_bootable (site_found 1 (H.view host.old).reads) ≡ false }
+    ensures damaged { result ≡ Err BootFailure.Damaged → H.tells.reads → is_bootable (site_found device_count (H.view host.old).reads) ≡ false }
     ensures untouched { result ≡ Err BootFailure.Damaged → (d : ℕ) → (H.view host.new).reads d ≡ (H.view host.old).reads d }
-    ensures stop { H.tells.reads → (sites : List Site) → ((image : List ℕ) → (H.view host.old).may_leave 0 image → Any (λ s. HasSite s image) sites)
-        → (found : Site) → site_found 1 (H.view host.old).reads ≡ Some found
-        → Within 0 IsAnyStep (IsOldOrBooted sites found) (H.view host.old) (H.view host.new) }
-    ensures left_alone { H.tells.reads → is_bootable (site_found 1 (H.view host.old).reads) ≡ false
-        → Within 0 IsSameImage IsAny (H.view host.old) (H.view host.new) }
-    ensures memory { result ≡ Err BootFailure.Memory → Within 0 IsSameImage IsAny (H.view host.old) (H.view host.new) }
+    ensures stop { H.tells.reads → (sites : List Site) → ((images : Images) → AreNow (H.view host.old) images → ImagesHaveAny sites images)
+        → (found : Site) → site_found device_count (H.view host.old).reads ≡ Some found
+        → WithinAll (AreOldOrBooted sites found) (H.view host.old) (H.view host.new) }
+    ensures left_alone { H.tells.reads → is_bootable (site_found device_count (H.view host.old).reads) ≡ false
+        → WithinAll (AreNow (H.view host.old)) (H.view host.old) (H.view host.new) }
+    ensures memory { result ≡ Err BootFailure.Memory → WithinAll (AreNow (H.view host.old)) (H.view host.old) (H.view host.new) }
     ensures on { IfOk result (λ m. ImagesMatch m (H.view host.new)) }
-    ensures settled { result ≡ Err BootFailure.Damaged → H.tells.reads → (image : List ℕ) → (H.view host.new).may_leave 0 image
-        → image ≡ (H.view host.old).reads 0 }
+    ensures settled { result ≡ Err BootFailure.Damaged → H.tells.reads → (images : Images) → AreNow (H.view host.new) images
+        → site_found device_count images ≡ site_found device_count (H.view host.old).reads }
     ensures failed { CountsBoot result (H.view host.old).faults (H.view host.new).faults }
-    ensures rest { KeepsRest 0 (H.view host.old) (H.view host.new) }
+    ensures rest { KeepsBeside (H.view host.old) (H.view host.new) }
 {
     match look(host)? {
         Found::Damaged => Err(BootFailure::Damaged),

@@ -1,29 +1,26 @@
 // Plans of calls on a space: what a call makes of the space in memory, before its log is asked.
 
-ghost use Rattle.std.specs.Prelude.{◌≡◌, ◌≤◌, length, IfOk, Some};
+ghost use Rattle.std.specs.Prelude.{◌≡◌, ◌≤◌, IfOk, Some};
 ghost use Rattle.tq_types.specs.declared.identifiers.Arrival.{Arrival};
 ghost use Rattle.tq_model.specs.declared.answer.Answer.TheVariants as answers;
 ghost use Rattle.tq_model.specs.declared.calls.CallAnswer.{CallAnswer};
 ghost use Rattle.tq_model.specs.Moves.{space_of};
-ghost use Rattle.tq_model.specs.Step.{enqueue_call, dequeue_call, enqueue_outcome, dequeue_outcome, queue_outcome};
+ghost use Rattle.tq_model.specs.Step.{enqueue_outcome, dequeue_outcome, queue_outcome};
 ghost use Rattle.tq_spacefile.specs.File.{held_in};
 ghost use Rattle.tq_run.specs.Calls.{IsPlanned, outcome_in};
-ghost use Rattle.tq_run.specs.SpaceCalls.{space_name, IsShortCall};
+ghost use Rattle.tq_run.specs.SpaceCalls.{space_name, IsAsked, IsAskedEnqueue, IsAskedDequeue};
 
 use std::alloc::{AllocError, Global};
-use tq_model::{
-    Answer, DequeueAsk, DequeueCall, DequeueWords, EnqueueAsk, EnqueueCall, EnqueueWords, Place,
-    QueueCreation, SpaceAnswer,
-};
+use tq_model::{Answer, DequeueAsk, EnqueueAsk, QueueCreation, SpaceAnswer};
 use tq_space::{Plan, QueueRefusal, Refusal};
 use tq_spacefile::SpaceFile;
-use tq_types::{Arrival, AskedQos, Name};
+use tq_types::{Arrival, Name};
 
 /// What a space is asked.
 #[derive(Drop)]
 pub enum SpaceCall {
-    Enqueue(EnqueueWords),
-    Dequeue(DequeueWords),
+    Enqueue(EnqueueAsk),
+    Dequeue(DequeueAsk),
     CreateQueue(QueueCreation),
 }
 
@@ -35,8 +32,8 @@ impl SpaceCall {
         ensures { result ≡ space_name self.now }
     {
         match self {
-            SpaceCall::Enqueue(words) => words.space,
-            SpaceCall::Dequeue(words) => words.space,
+            SpaceCall::Enqueue(ask) => ask.call.space,
+            SpaceCall::Dequeue(ask) => ask.call.space,
             SpaceCall::CreateQueue(creation) => creation.space,
         }
     }
@@ -73,61 +70,11 @@ fn take_answer(plan: &mut Plan) -> Answer
     }
 }
 
-// The call that words without flags of placement, time and quality make.
-fn enqueue_call(words: EnqueueWords) -> EnqueueCall
-    ensures { result ≡ enqueue_call words 0 }
+// The plan of an enqueue.
+fn plan_enqueue(alloc: Global, file: &SpaceFile, ask: EnqueueAsk) -> Result<Planned, AllocError>
+    requires { IsAskedEnqueue ask.next ask }
+    ensures { IfOk result (IsPlanned (held_in file.now) ask.next (enqueue_outcome ask (space_of (held_in file.now)))) }
 {
-    let want_id = words.flags.wants_id();
-    EnqueueCall {
-        space: words.space,
-        queue: words.queue,
-        notran: words.notran,
-        want_id,
-        place: Place::Plain,
-        priority: 50,
-        available: 0,
-        expiration: None,
-        corr: None,
-        replyq: None,
-        failq: None,
-        qos: AskedQos::Default,
-        reply_qos: AskedQos::Default,
-        body: words.body,
-    }
-}
-
-fn dequeue_call(words: DequeueWords) -> DequeueCall
-    ensures { result ≡ dequeue_call words }
-{
-    DequeueCall {
-        space: words.space,
-        queue: words.queue,
-        notran: words.notran,
-        peek: false,
-        id: None,
-        corr: None,
-        asked: words.flags,
-    }
-}
-
-// The plan of an enqueue, of the message of this arrival.
-fn plan_enqueue(
-    alloc: Global,
-    file: &SpaceFile,
-    words: EnqueueWords,
-    next: Arrival,
-) -> Result<Planned, AllocError>
-    requires { length words.body ≤ 65536 }
-    ensures { IfOk result (IsPlanned (held_in file.now) next (enqueue_outcome words 0 next (space_of (held_in file.now)))) }
-{
-    let ask = EnqueueAsk {
-        call: enqueue_call(words),
-        clock: 0,
-        owner: None,
-        transactional: false,
-        heuristic: 0,
-        next,
-    };
     match file.space().plan_enqueue(alloc, ask) {
         Ok(mut plan) => {
             let answer = take_answer(&mut plan);
@@ -139,17 +86,11 @@ fn plan_enqueue(
 }
 
 // The plan of a dequeue.
-fn plan_dequeue(alloc: Global, file: &SpaceFile, words: DequeueWords) -> Result<Planned, AllocError>
-    ensures { (next : Arrival) → IfOk result (IsPlanned (held_in file.now) next (dequeue_outcome words 0 next (space_of (held_in file.now)))) }
+fn plan_dequeue(alloc: Global, file: &SpaceFile, ask: &DequeueAsk) -> Result<Planned, AllocError>
+    requires { IsAskedDequeue ask.now }
+    ensures { (next : Arrival) → IfOk result (IsPlanned (held_in file.now) next (dequeue_outcome ask.now (space_of (held_in file.now)))) }
 {
-    let ask = DequeueAsk {
-        call: dequeue_call(words),
-        clock: 0,
-        owner: None,
-        transactional: false,
-        heuristic: 0,
-    };
-    match file.space().plan_dequeue(alloc, &ask) {
+    match file.space().plan_dequeue(alloc, ask) {
         Ok(mut plan) => {
             let answer = take_answer(&mut plan);
             Ok(Planned::Granted(plan, answer))
@@ -161,7 +102,7 @@ fn plan_dequeue(alloc: Global, file: &SpaceFile, words: DequeueWords) -> Result<
 
 // The plan of a new queue.
 fn plan_queue(alloc: Global, file: &SpaceFile, name: &Name) -> Result<Planned, AllocError>
-    ensures { (next : Arrival) → IfOk result (IsPlanned (held_in file.now) next (queue_outcome name.now 0 next (space_of (held_in file.now)))) }
+    ensures { (next : Arrival) → IfOk result (IsPlanned (held_in file.now) next (queue_outcome name.now (space_of (held_in file.now)))) }
 {
     match file.space().plan_queue(alloc, name) {
         Ok(plan) => Ok(Planned::Granted(plan, Answer::Done)),
@@ -180,12 +121,12 @@ pub fn plan(
     call: SpaceCall,
     next: Arrival,
 ) -> Result<Planned, AllocError>
-    requires { IsShortCall call }
-    ensures { IfOk result (IsPlanned (held_in file.now) next (outcome_in file.now call next)) }
+    requires { IsAsked next call }
+    ensures { IfOk result (IsPlanned (held_in file.now) next (outcome_in file.now call)) }
 {
     match call {
-        SpaceCall::Enqueue(words) => plan_enqueue(alloc, file, words, next),
-        SpaceCall::Dequeue(words) => plan_dequeue(alloc, file, words),
+        SpaceCall::Enqueue(ask) => plan_enqueue(alloc, file, ask),
+        SpaceCall::Dequeue(ask) => plan_dequeue(alloc, file, &ask),
         SpaceCall::CreateQueue(creation) => plan_queue(alloc, file, &creation.queue),
     }
 }

@@ -1,6 +1,6 @@
 ghost use Rattle.std.specs.Prelude.{◌≡◌, ◌≢◌, ◌<◌, ◌≤◌, ◌+◌, IfOk, OnOk};
 ghost use Rattle.tq_host.specs.View.{TellsAll};
-ghost use Rattle.tq_host.specs.Within.{KeepsRest};
+ghost use Rattle.tq_host.specs.Within.{KeepsBeside};
 ghost use Rattle.tq_model.specs.declared.request.Request.{Request};
 ghost use Rattle.tq_model.specs.declared.request.Request.TheVariants as requests;
 ghost use Rattle.tq_model.specs.MachineWithFaults.{down_answer};
@@ -37,7 +37,7 @@ fn reboot<H: Host>(alloc: Global, host: &mut H, state: &mut State) -> Result<Ans
     ensures turned { IfOk result (λ a. TellsAll H.tells → HasTurned state.old state.new requests.Boot a (H.view host.old) (H.view host.new)) }
     ensures stop { TellsAll H.tells → IsTurning state.old requests.Boot (H.view host.old) (H.view host.new) }
     ensures later { (H.view host.old).faults ≤ (H.view host.new).faults }
-    ensures rest { KeepsRest 0 (H.view host.old) (H.view host.new) }
+    ensures rest { KeepsBeside (H.view host.old) (H.view host.new) }
 {
     match boot(alloc, host) {
         Ok(manager) => {
@@ -58,6 +58,7 @@ fn reboot<H: Host>(alloc: Global, host: &mut H, state: &mut State) -> Result<Ans
 }
 
 // Does what a line other than a boot asks for, where there is a site.
+#[tactic(auto, using(crate::proofs::DeviceStopLemmas::beside_kept))]
 fn serve_standing<H: Host>(
     alloc: Global,
     host: &mut H,
@@ -72,7 +73,7 @@ fn serve_standing<H: Host>(
     ensures turned { IfOk result (λ a. TellsAll H.tells → HasTurned state.old state.new request a (H.view host.old) (H.view host.new)) }
     ensures stop { TellsAll H.tells → IsTurning state.old request (H.view host.old) (H.view host.new) }
     ensures later { (H.view host.old).faults ≤ (H.view host.new).faults }
-    ensures rest { KeepsRest 0 (H.view host.old) (H.view host.new) }
+    ensures rest { KeepsBeside (H.view host.old) (H.view host.new) }
 {
     let served = match state {
         State::Up(manager) => serve(alloc, host, manager, request),
@@ -103,7 +104,7 @@ pub fn respond<H: Host>(
     ensures turned { IfOk result (λ a. TellsAll H.tells → HasTurned state.old state.new request a (H.view host.old) (H.view host.new)) }
     ensures stop { TellsAll H.tells → IsTurning state.old request (H.view host.old) (H.view host.new) }
     ensures later { (H.view host.old).faults ≤ (H.view host.new).faults }
-    ensures rest { KeepsRest 0 (H.view host.old) (H.view host.new) }
+    ensures rest { KeepsBeside (H.view host.old) (H.view host.new) }
 {
     if let Request::Boot = request {
         return reboot(alloc, host, state);

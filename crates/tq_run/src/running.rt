@@ -1,31 +1,30 @@
-ghost use Rattle.std.specs.Prelude.{◌≡◌, ◌≢◌, ◌⊎◌, ◌<◌, ◌≤◌, ◌+◌, ◌++◌, ◌↔◌, true, false, [], ◌∷◌, List, ℕ, map, string_bytes, IfOk, OnOk, OnErr, IfErr, None, Some};
+ghost use Rattle.std.specs.Prelude.{◌≡◌, ◌≢◌, ◌⊎◌, ◌<◌, ◌≤◌, ◌+◌, ◌++◌, ◌↔◌, true, false, [], ◌∷◌, List, ℕ, map, string_bytes, IfOk, OnOk, OnErr, None, Some};
 ghost use Rattle.tq_host.specs.Calls.{HasCauseOf, Rose};
-ghost use Rattle.tq_host.specs.View.{TellsAll, Stamp, IsSettled};
+ghost use Rattle.tq_host.specs.View.{TellsAll, Stamp, AreNow, AreSettled};
 ghost use Rattle.tq_model.specs.Step.{can_boot};
 ghost use Rattle.tq_model.specs.MachineWithFaults.{Failures, rose_at};
 ghost use Rattle.tq_model.specs.declared.request.Request.{Request};
 ghost use Rattle.tq_model.specs.declared.request.Request.TheVariants as requests;
-ghost use Rattle.tq_host.specs.Within.{Within};
-ghost use Rattle.tq_device.specs.Content.{IsSameImage, IsAny};
+ghost use Rattle.tq_host.specs.Within.{WithinAll};
 ghost use Rattle.tq_run.specs.Stops.{IsCrashSafe, IsLeftAlone};
 ghost use Rattle.tq_run.specs.Turns.{Origin, origin_of, none_failed, RunsOver};
 ghost use Rattle.tq_run.specs.Standing.{next_of, StateImagesMatch, HasReached, HasRun, HasStarted};
 ghost use Rattle.tq_model.specs.Site.{Site};
 ghost use Rattle.tq_model.specs.Grammar.{script_requests};
 ghost use Rattle.tq_model.specs.Reading.{site_found};
-ghost use Rattle.tq_run.specs.Counts.{NoneRose, HasCounts, HasRunCounts};
+ghost use Rattle.tq_run.specs.Counts.{NoneRose, HasCounts, HasRunCounts, itself, run_end_of_script, run_end_of_start};
 ghost use Rattle.tq_run.specs.Ending.{IsDone, IsUntouched, IsDamaged, FailsInLine0, IsComplete, status_for, trace_of};
 ghost use Rattle.tq_run.specs.Input.{IsRead};
 ghost use Rattle.tq_run.specs.Manager.{is_bootable};
 ghost use Rattle.tq_run.specs.Output.{TellsMore, HasBegun, BeginsAttached, KeepsInput};
-ghost use Rattle.tq_run.specs.Words.{device_word};
+ghost use Rattle.tq_run.specs.Words.{device_count, device_word};
 
 use crate::devices::readiness;
 use crate::manager::boot;
 use crate::script::read_script;
 use crate::serving::{give_answer, serve_lines};
 use crate::state::State;
-use crate::status::{RunEnd, Status};
+use crate::status::{RunEnd, ScriptEnd, StartEnd, Status};
 use crate::words::device_path;
 use std::alloc::Global;
 use tq_host::Host;
@@ -34,12 +33,13 @@ use tq_host::Host;
 const MOST_INPUT: u64 = 4294967296;
 
 // Reads the script, at most `limit` bytes of it, and answers its lines.
+#[tactic(auto, using(crate::proofs::LineByLineLemmas::tells_on, crate::proofs::LineByLineLemmas::tells_none))]
 fn answer_script<H: Host>(
     alloc: Global,
     host: &mut H,
     state: &mut State,
     limit: u64,
-) -> Result<(), RunEnd>
+) -> Result<(), ScriptEnd>
     requires limit { 0 < limit }
     requires most { limit ≤ 4294967296 }
     requires first { next_of state.old ≡ 0 }
@@ -50,75 +50,75 @@ fn answer_script<H: Host>(
     ensures stop { TellsAll H.tells → (o : Origin) (found : Site) (failed : Failures) (first : Request)
         → HasReached o found failed (first ∷ []) state.old (H.view host.old) → RunsOver o found failed (first ∷ script_requests (H.view host.old).streams.script) (H.view host.old) (H.view host.new) }
     ensures told { H.tells.output → TellsMore (H.view host.old) (H.view host.new) }
-    ensures much { result ≡ Err RunEnd.TooMuchInput → H.tells.output → (H.view host.new).streams.taken ≡ (H.view host.old).streams.taken + limit }
-    ensures less { (result ≢ Err RunEnd.TooMuchInput) → (result ≢ Err RunEnd.Memory) → H.tells.output
+    ensures much { result ≡ Err ScriptEnd.TooMuchInput → H.tells.output → (H.view host.new).streams.taken ≡ (H.view host.old).streams.taken + limit }
+    ensures less { (result ≢ Err ScriptEnd.TooMuchInput) → (result ≢ Err ScriptEnd.Memory) → H.tells.output
         → (H.view host.new).streams.taken < (H.view host.old).streams.taken + limit }
     ensures most { H.tells.output → (H.view host.new).streams.taken ≤ (H.view host.old).streams.taken + limit }
     ensures later { (H.view host.old).faults ≤ (H.view host.new).faults }
-    ensures counts { HasRunCounts result (H.view host.old) (H.view host.new) }
-    ensures lines { (result ≢ Err RunEnd.Damaged) × (result ≢ Err RunEnd.Device) }
+    ensures counts { HasRunCounts run_end_of_script result (H.view host.old) (H.view host.new) }
 {
     let script = read_script(alloc, host, limit)?;
-    serve_lines(alloc, host, state, &script)
+    Ok(serve_lines(alloc, host, state, &script)?)
 }
 
 // Line 0: a boot of what device 0 stands for.
-fn begin<H: Host>(alloc: Global, path: &str, host: &mut H) -> Result<State, RunEnd>
+#[tactic(auto, using(crate::proofs::LineByLineLemmas::tells_none, crate::proofs::LineByLineLemmas::tells_given, crate::proofs::LeftAloneLemmas::alone_attached, crate::proofs::LeftAloneLemmas::contradicts, crate::proofs::RunDeviceLemmas::was_bootable))]
+fn begin<H: Host>(alloc: Global, path: &str, host: &mut H) -> Result<State, StartEnd>
     ensures first { IfOk result (λ state. next_of state ≡ 0) }
     ensures on { IfOk result (λ state. StateImagesMatch state (H.view host.new)) }
-    ensures reached { IfOk result (λ state. TellsAll H.tells → (found : Site) → site_found 1 (H.view host.old).reads ≡ Some found
+    ensures reached { IfOk result (λ state. TellsAll H.tells → (found : Site) → site_found device_count (H.view host.old).reads ≡ Some found
         → HasStarted found state (H.view host.old) (H.view host.new)) }
-    ensures stop { TellsAll H.tells → IsSettled 0 (H.view host.old) → (found : Site) → site_found 1 (H.view host.old).reads ≡ Some found → can_boot found ≡ true
+    ensures stop { TellsAll H.tells → AreSettled device_count (H.view host.old) → (found : Site) → site_found device_count (H.view host.old).reads ≡ Some found → can_boot found ≡ true
         → RunsOver (origin_of (H.view host.old)) found none_failed (requests.Boot ∷ []) (H.view host.old) (H.view host.new) }
-    ensures damaged { result ≡ Err RunEnd.Damaged → H.tells.reads → is_bootable (site_found 1 (H.view host.old).reads) ≡ false }
-    ensures untouched { result ≡ Err RunEnd.Damaged → IsUntouched (H.view host.old) (H.view host.new) }
-    ensures bootable { (result ≢ Err RunEnd.Damaged) → (result ≢ Err RunEnd.Device) → (result ≢ Err RunEnd.Memory) → H.tells.reads
-        → is_bootable (site_found 1 (H.view host.old).reads) ≡ true }
-    ensures left_alone { H.tells.reads → is_bootable (site_found 1 (H.view host.old).reads) ≡ false
-        → Within 0 IsSameImage IsAny (H.view host.old) (H.view host.new) }
+    ensures damaged { result ≡ Err StartEnd.Damaged → H.tells.reads → is_bootable (site_found device_count (H.view host.old).reads) ≡ false }
+    ensures untouched { result ≡ Err StartEnd.Damaged → IsUntouched (H.view host.old) (H.view host.new) }
+    ensures bootable { (result ≢ Err StartEnd.Damaged) → (result ≢ Err StartEnd.Device) → (result ≢ Err StartEnd.Memory) → H.tells.reads
+        → is_bootable (site_found device_count (H.view host.old).reads) ≡ true }
+    ensures left_alone { H.tells.reads → is_bootable (site_found device_count (H.view host.old).reads) ≡ false
+        → WithinAll (AreNow (H.view host.old)) (H.view host.old) (H.view host.new) }
     ensures attached { H.tells.output → BeginsAttached (path.now ∷ []) (H.view host.old) (H.view host.new) }
     ensures told { H.tells.output → TellsMore (H.view host.old) (H.view host.new) }
     ensures begun { OnOk result (H.tells.output → HasBegun (H.view host.old) (H.view host.new)) }
-    ensures calm { OnErr result ((result ≢ Err RunEnd.Device) → H.tells.output → (added : List Stamp)
+    ensures calm { OnErr result ((result ≢ Err StartEnd.Device) → H.tells.output → (added : List Stamp)
         → (H.view host.new).streams.stamps ≡ (H.view host.old).streams.stamps ++ added
         → rose_at (trace_of (H.view host.old) (H.view host.new) added) 0 ≡ false) }
-    ensures silent { result ≡ Err RunEnd.Device → (H.view host.new).streams.output ≡ (H.view host.old).streams.output }
+    ensures silent { result ≡ Err StartEnd.Device → (H.view host.new).streams.output ≡ (H.view host.old).streams.output }
     ensures input { KeepsInput (H.view host.old) (H.view host.new) }
-    ensures counts { HasCounts result (H.view host.old) (H.view host.new) }
-    ensures four { IfErr result (λ e. (e ≢ RunEnd.Damaged) → (e ≢ RunEnd.Device) → (e ≢ RunEnd.Memory) → e ≡ RunEnd.Output) }
+    ensures counts { HasCounts run_end_of_start result (H.view host.old) (H.view host.new) }
 {
-    host.attach(0, path).map_err(|_| RunEnd::Device)?;
+    host.attach(0, path)?;
     let manager = boot(alloc, host)?;
     give_answer(alloc, host, 0, &readiness(&manager))?;
     Ok(State::Up(manager))
 }
 
-// A run over one device: a boot, which is line 0, and the lines of the script, of which at most `limit` bytes are read.
+// A run: a boot, which is line 0, and the lines of the script, of which at most `limit` bytes are read.
+#[tactic(auto, using(crate::proofs::LineByLineLemmas::tells_on, crate::proofs::LeftAloneLemmas::contradicts))]
 fn attend<H: Host>(alloc: Global, path: &str, host: &mut H, limit: u64) -> Result<(), RunEnd>
     requires some { 0 < limit }
     requires most { limit ≤ 4294967296 }
-    ensures done { OnOk result (TellsAll H.tells → (found : Site) → site_found 1 (H.view host.old).reads ≡ Some found
+    ensures done { OnOk result (TellsAll H.tells → (found : Site) → site_found device_count (H.view host.old).reads ≡ Some found
         → IsDone (H.view host.old) (H.view host.new) found) }
-    ensures damaged { result ≡ Err RunEnd.Damaged → H.tells.reads → is_bootable (site_found 1 (H.view host.old).reads) ≡ false }
+    ensures damaged { result ≡ Err RunEnd.Damaged → H.tells.reads → is_bootable (site_found device_count (H.view host.old).reads) ≡ false }
     ensures untouched { result ≡ Err RunEnd.Damaged → IsUntouched (H.view host.old) (H.view host.new) }
     ensures bootable { (result ≢ Err RunEnd.Damaged) → (result ≢ Err RunEnd.Device) → (result ≢ Err RunEnd.Memory) → H.tells.reads
-        → is_bootable (site_found 1 (H.view host.old).reads) ≡ true }
+        → is_bootable (site_found device_count (H.view host.old).reads) ≡ true }
     ensures line_0 { H.tells.output → FailsInLine0 (result ≡ Err RunEnd.Device) (H.view host.old) (H.view host.new) }
     ensures silent { result ≡ Err RunEnd.Device → (H.view host.new).streams.output ≡ (H.view host.old).streams.output }
     ensures much { result ≡ Err RunEnd.TooMuchInput → H.tells.output → (H.view host.new).streams.taken ≡ (H.view host.old).streams.taken + limit }
     ensures less { (result ≢ Err RunEnd.TooMuchInput) → (result ≢ Err RunEnd.Memory) → H.tells.output
         → (H.view host.new).streams.taken < (H.view host.old).streams.taken + limit }
     ensures most { H.tells.output → (H.view host.new).streams.taken ≤ (H.view host.old).streams.taken + limit }
-    ensures stop { TellsAll H.tells → IsSettled 0 (H.view host.old) → (found : Site) → site_found 1 (H.view host.old).reads ≡ Some found → can_boot found ≡ true
+    ensures stop { TellsAll H.tells → AreSettled device_count (H.view host.old) → (found : Site) → site_found device_count (H.view host.old).reads ≡ Some found → can_boot found ≡ true
         → RunsOver (origin_of (H.view host.old)) found none_failed (requests.Boot ∷ script_requests (H.view host.old).streams.script) (H.view host.old) (H.view host.new) }
-    ensures left_alone { H.tells.reads → is_bootable (site_found 1 (H.view host.old).reads) ≡ false
-        → Within 0 IsSameImage IsAny (H.view host.old) (H.view host.new) }
+    ensures left_alone { H.tells.reads → is_bootable (site_found device_count (H.view host.old).reads) ≡ false
+        → WithinAll (AreNow (H.view host.old)) (H.view host.old) (H.view host.new) }
     ensures attached { H.tells.output → BeginsAttached (path.now ∷ []) (H.view host.old) (H.view host.new) }
     ensures told { H.tells.output → TellsMore (H.view host.old) (H.view host.new) }
-    ensures counts { HasRunCounts result (H.view host.old) (H.view host.new) }
+    ensures counts { HasRunCounts itself result (H.view host.old) (H.view host.new) }
 {
     let mut state = begin(alloc, path, host)?;
-    answer_script(alloc, host, &mut state, limit)
+    Ok(answer_script(alloc, host, &mut state, limit)?)
 }
 
 // The status of an ending.
@@ -143,11 +143,11 @@ pub fn run_within<H: Host>(alloc: Global, words: &[String], host: &mut H, limit:
     ensures usage { (result ≡ Status.Usage) ↔ (device_word (map string_bytes words.now) ≡ None) }
     ensures nothing_else { result ≡ Status.Usage → host.new ≡ host.old }
     ensures damaged { (d : ℕ) → result ≡ Status.Damaged d → IsDamaged H.tells d (H.view host.old) (H.view host.new) }
-    ensures damaged_always { result ≢ Status.Usage → H.tells.reads → is_bootable (site_found 1 (H.view host.old).reads) ≡ false
+    ensures damaged_always { result ≢ Status.Usage → H.tells.reads → is_bootable (site_found device_count (H.view host.old).reads) ≡ false
         → (Rose (H.view host.old).faults (H.view host.new).faults → ⊥) → (result ≡ Status.Damaged 0) ⊎ (result ≡ Status.NoMemory) }
     ensures bootable { result ≢ Status.Usage → ((d : ℕ) → result ≢ Status.Damaged d) → result ≢ Status.DeviceFault → result ≢ Status.NoMemory
-        → H.tells.reads → is_bootable (site_found 1 (H.view host.old).reads) ≡ true }
-    ensures left_alone { H.tells.reads → is_bootable (site_found 1 (H.view host.old).reads) ≡ false → IsLeftAlone (H.view host.old) (H.view host.new) }
+        → H.tells.reads → is_bootable (site_found device_count (H.view host.old).reads) ≡ true }
+    ensures left_alone { H.tells.reads → is_bootable (site_found device_count (H.view host.old).reads) ≡ false → IsLeftAlone (H.view host.old) (H.view host.new) }
     ensures attached { H.tells.output → (path : List ℕ) → device_word (map string_bytes words.now) ≡ Some path
         → BeginsAttached (path ∷ []) (H.view host.old) (H.view host.new) }
     ensures read_fault { HasCauseOf (result ≡ Status.ReadFault) (H.view host.old).streams.input_faults (H.view host.new).streams.input_faults }
@@ -159,11 +159,11 @@ pub fn run_within<H: Host>(alloc: Global, words: &[String], host: &mut H, limit:
     ensures too_much_always { H.tells.output → (H.view host.new).streams.taken ≡ (H.view host.old).streams.taken + limit
         → (result ≡ Status.TooMuchInput) ⊎ (result ≡ Status.NoMemory) }
     ensures most { H.tells.output → (H.view host.new).streams.taken ≤ (H.view host.old).streams.taken + limit }
-    ensures done { result ≡ Status.Done → TellsAll H.tells → (found : Site) → site_found 1 (H.view host.old).reads ≡ Some found
+    ensures done { result ≡ Status.Done → TellsAll H.tells → (found : Site) → site_found device_count (H.view host.old).reads ≡ Some found
         → IsDone (H.view host.old) (H.view host.new) found }
-    ensures stop { TellsAll H.tells → IsSettled 0 (H.view host.old) → (found : Site) → site_found 1 (H.view host.old).reads ≡ Some found
+    ensures stop { TellsAll H.tells → AreSettled device_count (H.view host.old) → (found : Site) → site_found device_count (H.view host.old).reads ≡ Some found
         → can_boot found ≡ true → IsCrashSafe (H.view host.old) (H.view host.new) found }
-    ensures complete { result ≢ Status.Usage → H.tells.reads → is_bootable (site_found 1 (H.view host.old).reads) ≡ true
+    ensures complete { result ≢ Status.Usage → H.tells.reads → is_bootable (site_found device_count (H.view host.old).reads) ≡ true
         → NoneRose (H.view host.old) (H.view host.new) → IsComplete result }
 {
     match device_path(words) {
@@ -186,13 +186,13 @@ pub fn run<H: Host>(alloc: Global, words: &[String], host: &mut H) -> Status
 
     // The device's bytes have no reading, or its epoch cannot be raised; nothing is written then.
     ensures damaged { (d : ℕ) → result ≡ Status.Damaged d → IsDamaged H.tells d (H.view host.old) (H.view host.new) }
-    ensures damaged_always { result ≢ Status.Usage → H.tells.reads → is_bootable (site_found 1 (H.view host.old).reads) ≡ false
+    ensures damaged_always { result ≢ Status.Usage → H.tells.reads → is_bootable (site_found device_count (H.view host.old).reads) ≡ false
         → (Rose (H.view host.old).faults (H.view host.new).faults → ⊥) → (result ≡ Status.Damaged 0) ⊎ (result ≡ Status.NoMemory) }
 
     // Where the device stands for no site that can be booted, nothing is written and nothing given, whatever the status.
     ensures bootable { result ≢ Status.Usage → ((d : ℕ) → result ≢ Status.Damaged d) → result ≢ Status.DeviceFault → result ≢ Status.NoMemory
-        → H.tells.reads → is_bootable (site_found 1 (H.view host.old).reads) ≡ true }
-    ensures left_alone { H.tells.reads → is_bootable (site_found 1 (H.view host.old).reads) ≡ false → IsLeftAlone (H.view host.old) (H.view host.new) }
+        → H.tells.reads → is_bootable (site_found device_count (H.view host.old).reads) ≡ true }
+    ensures left_alone { H.tells.reads → is_bootable (site_found device_count (H.view host.old).reads) ≡ false → IsLeftAlone (H.view host.old) (H.view host.new) }
 
     // Where line 0 was given, the device was attached by its word then.
     ensures attached { H.tells.output → (path : List ℕ) → device_word (map string_bytes words.now) ≡ Some path
@@ -212,16 +212,16 @@ pub fn run<H: Host>(alloc: Global, words: &[String], host: &mut H) -> Status
     ensures most { H.tells.output → (H.view host.new).streams.taken ≤ (H.view host.old).streams.taken + 4294967296 }
 
     // The whole run is the machine's.
-    ensures done { result ≡ Status.Done → TellsAll H.tells → (found : Site) → site_found 1 (H.view host.old).reads ≡ Some found
+    ensures done { result ≡ Status.Done → TellsAll H.tells → (found : Site) → site_found device_count (H.view host.old).reads ≡ Some found
         → IsDone (H.view host.old) (H.view host.new) found }
 
     // At every stop within the run, the device stands for the machine with faults after some number of whole lines, as many
     // as were answered or one more, and the output is a first part of the text of these.
-    ensures stop { TellsAll H.tells → IsSettled 0 (H.view host.old) → (found : Site) → site_found 1 (H.view host.old).reads ≡ Some found
+    ensures stop { TellsAll H.tells → AreSettled device_count (H.view host.old) → (found : Site) → site_found device_count (H.view host.old).reads ≡ Some found
         → can_boot found ≡ true → IsCrashSafe (H.view host.old) (H.view host.new) found }
 
     // Where nothing stands against it, the run is done.
-    ensures complete { result ≢ Status.Usage → H.tells.reads → is_bootable (site_found 1 (H.view host.old).reads) ≡ true
+    ensures complete { result ≢ Status.Usage → H.tells.reads → is_bootable (site_found device_count (H.view host.old).reads) ≡ true
         → NoneRose (H.view host.old) (H.view host.new) → IsComplete result }
 {
     run_within(alloc, words, host, MOST_INPUT)

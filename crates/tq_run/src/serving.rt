@@ -1,6 +1,6 @@
-ghost use Rattle.std.specs.Prelude.{◌≡◌, ◌≢◌, ◌<◌, ◌≤◌, ◌+◌, ◌++◌, [], ◌∷◌, List, ℕ, length, IfOk, IfErr, OnOk};
+ghost use Rattle.std.specs.Prelude.{◌≡◌, ◌≢◌, ◌<◌, ◌≤◌, ◌+◌, ◌++◌, [], ◌∷◌, List, ℕ, length, IfOk, OnOk};
 ghost use Rattle.tq_host.specs.View.{TellsAll};
-ghost use Rattle.tq_host.specs.Calls.{IsGiven, IsGiving};
+ghost use Rattle.tq_host.specs.Calls.{IsGiven, IsGiving, next_count};
 ghost use Rattle.tq_host.specs.Within.{Ran};
 ghost use Rattle.tq_model.specs.declared.request.Request.{Request};
 ghost use Rattle.tq_model.specs.declared.request.CallRequest.{CallRequest};
@@ -8,14 +8,14 @@ ghost use Rattle.tq_model.specs.MachineWithFaults.{Failures};
 ghost use Rattle.tq_model.specs.Step.{step};
 ghost use Rattle.tq_model.specs.Text.{line_text};
 ghost use Rattle.tq_model.specs.Grammar.{line_request, script_requests};
-ghost use Rattle.tq_run.specs.Counts.{HasCounts, HasRunCounts};
+ghost use Rattle.tq_run.specs.Counts.{HasCounts, HasRunCounts, run_end_of_line};
 ghost use Rattle.tq_run.specs.Stops.{ImagesMatch, HasNoNewImage};
 ghost use Rattle.tq_run.specs.Turns.{Origin, RunsOver};
 ghost use Rattle.tq_run.specs.Standing.{next_of, StateImagesMatch, HasReached, HasRun};
 ghost use Rattle.tq_run.specs.Manager.{site_of};
 ghost use Rattle.tq_run.specs.Serving.{IsServed, ChangesOnce, CountsFailure};
 ghost use Rattle.tq_run.specs.Output.{TellsMore, KeepsInput};
-ghost use Rattle.tq_model.specs.Site.{Site};
+ghost use Rattle.tq_model.specs.Site.{Site, durable};
 
 use crate::calls::serve_call;
 use crate::devices::serve_device;
@@ -23,7 +23,7 @@ use crate::responding::respond;
 use crate::site::Manager;
 use crate::spaces::serve_space;
 use crate::state::State;
-use crate::status::{Failure, RunEnd};
+use crate::status::{Failure, LineEnd};
 use std::alloc::Global;
 use tq_host::Host;
 use tq_model::{Answer, Request};
@@ -35,7 +35,7 @@ pub fn give_answer<H: Host>(
     host: &mut H,
     line: u64,
     answer: &Answer,
-) -> Result<(), RunEnd>
+) -> Result<(), LineEnd>
     ensures gave { OnOk result (H.tells.output → IsGiven (length (line_text line answer.now)) (line_text line answer.now) (H.view host.old) (H.view host.new)) }
     ensures some { H.tells.output → (k : ℕ) × IsGiven k (line_text line answer.now) (H.view host.old) (H.view host.new) }
     ensures input { KeepsInput (H.view host.old) (H.view host.new) }
@@ -43,11 +43,11 @@ pub fn give_answer<H: Host>(
     ensures faults { (H.view host.new).faults ≡ (H.view host.old).faults }
     ensures gives { Ran (IsGiving (line_text line answer.now) (H.view host.old) (H.view host.new)) (H.view host.old) (H.view host.new) }
     ensures images { HasNoNewImage (H.view host.old) (H.view host.new) }
-    ensures counts { HasCounts result (H.view host.old) (H.view host.new) }
-    ensures two { IfErr result (λ e. (e ≢ RunEnd.Memory) → e ≡ RunEnd.Output) }
+    ensures counts { HasCounts run_end_of_line result (H.view host.old) (H.view host.new) }
+    ensures clock { OnOk result ((H.view host.new).clock ≡ next_count (H.view host.old).clock) }
 {
-    let text = tq_print::answer(alloc, line, answer).map_err(|_| RunEnd::Memory)?;
-    host.give(&text).map_err(|_| RunEnd::Output)
+    let text = tq_print::answer(alloc, line, answer)?;
+    host.give(&text).map_err(|_| LineEnd::Output)
 }
 
 // Does what a line asks for, but for a call.
@@ -64,6 +64,7 @@ fn serve_other<H: Host>(
     ensures served { IfOk result (IsServed (step (site_of manager.old) request.now) manager.old manager.new (H.view host.new)) }
     ensures stop { ChangesOnce (step (site_of manager.old) request.now) manager.old (H.view host.old) (H.view host.new) }
     ensures failed { CountsFailure result (H.view host.old).faults (H.view host.new).faults }
+    ensures idle { durable (step (site_of manager.old) request.now).site ≡ durable (site_of manager.old) → host.new ≡ host.old }
 {
     match request {
         Request::Nothing => Ok(Answer::Done),
@@ -88,6 +89,8 @@ pub fn serve<H: Host>(
     ensures served { IfOk result (IsServed (step (site_of manager.old) request) manager.old manager.new (H.view host.new)) }
     ensures stop { ChangesOnce (step (site_of manager.old) request) manager.old (H.view host.old) (H.view host.new) }
     ensures failed { CountsFailure result (H.view host.old).faults (H.view host.new).faults }
+    // what leaves alone what lasts makes no call
+    ensures idle { durable (step (site_of manager.old) request).site ≡ durable (site_of manager.old) → host.new ≡ host.old }
 {
     if let Request::Call(call) = request {
         return serve_call(alloc, host, manager, call);
@@ -102,7 +105,7 @@ fn serve_line<H: Host>(
     state: &mut State,
     number: u64,
     line: &[u8],
-) -> Result<(), RunEnd>
+) -> Result<(), LineEnd>
     requires next { next_of state.old < 4294967295 }
     requires on { StateImagesMatch state.old (H.view host.old) }
     ensures next { OnOk result (next_of state.new ≤ next_of state.old + 1) }
@@ -114,21 +117,21 @@ fn serve_line<H: Host>(
     ensures told { H.tells.output → TellsMore (H.view host.old) (H.view host.new) }
     ensures input { KeepsInput (H.view host.old) (H.view host.new) }
     ensures later { (H.view host.old).faults ≤ (H.view host.new).faults }
-    ensures counts { HasRunCounts result (H.view host.old) (H.view host.new) }
-    ensures two { IfErr result (λ e. (e ≢ RunEnd.Memory) → e ≡ RunEnd.Output) }
+    ensures counts { HasRunCounts run_end_of_line result (H.view host.old) (H.view host.new) }
 {
-    let request = parse(alloc, line).map_err(|_| RunEnd::Memory)?;
+    let request = parse(alloc, line)?;
     let answer = respond(alloc, host, state, request)?;
     give_answer(alloc, host, number, &answer)
 }
 
 /// Answers the lines of a script, from line 1 on, in whatever state the run is.
+#[tactic(auto, using(crate::proofs::LineByLineLemmas::tells_on))]
 pub fn serve_lines<H: Host>(
     alloc: Global,
     host: &mut H,
     state: &mut State,
     script: &[u8],
-) -> Result<(), RunEnd>
+) -> Result<(), LineEnd>
     requires numbers { next_of state.old + length script.now ≤ 4294967295 }
     requires on { StateImagesMatch state.old (H.view host.old) }
     ensures reached { OnOk result (TellsAll H.tells → (o : Origin) (found : Site) (failed : Failures) (first : Request)
@@ -138,8 +141,7 @@ pub fn serve_lines<H: Host>(
     ensures told { H.tells.output → TellsMore (H.view host.old) (H.view host.new) }
     ensures input { KeepsInput (H.view host.old) (H.view host.new) }
     ensures later { (H.view host.old).faults ≤ (H.view host.new).faults }
-    ensures counts { HasRunCounts result (H.view host.old) (H.view host.new) }
-    ensures two { IfErr result (λ e. (e ≢ RunEnd.Memory) → e ≡ RunEnd.Output) }
+    ensures counts { HasRunCounts run_end_of_line result (H.view host.old) (H.view host.new) }
 {
     let mut rest = script;
     let mut number = 1;

@@ -1,6 +1,6 @@
 ghost use Rattle.std.specs.Prelude.{◌≡◌, ◌≢◌, ◌<◌, ◌≤◌, ◌+◌, ◌-◌, List, ℕ, IfOk, IfErr, OnOk, is_some, Some, None};
 ghost use Rattle.tq_host.specs.Within.{KeepsRest, Within};
-ghost use Rattle.tq_model.specs.Site.{clusters_for, most_pages, space_named};
+ghost use Rattle.tq_model.specs.Site.{durable, clusters_for, most_pages, space_named};
 ghost use Rattle.tq_model.specs.Space.{overhead_pages};
 ghost use Rattle.tq_model.specs.Step.{space_step, create_space, create_queue, space_refusal, field_refused, pages_asked, shape_asked, pages_refusal, placing_refusal};
 ghost use Rattle.tq_host.specs.View.{IsSettled};
@@ -20,40 +20,30 @@ use std::alloc::Global;
 use tq_device::{DeviceContent, enter, grow};
 use tq_host::{Failed, Host};
 use tq_model::{
-    Answer, ClusterRoom, DeviceAnswer, Field, NewSpace, QueueCreation, Shape, SpaceAnswer,
-    SpaceCreation, SpacePages, SpaceRequest, overhead_pages,
+    Answer, CLUSTER_BYTES, ClusterRoom, DeviceAnswer, Field, HEADER_BYTES, LAST_SPACE, MOST_MEMORY,
+    MOST_MESSAGES, MOST_PAGES, MOST_QUEUES, MOST_TRANSACTIONS, NewSpace, QueueCreation, Shape,
+    SpaceAnswer, SpaceCreation, SpacePages, SpaceRequest, overhead_pages,
 };
 use tq_spacefile::{SpaceFile, SpacePlace, format};
 use tq_types::Name;
-
-// The bytes of a device's header, and of a cluster.
-const HEADER_BYTES: u64 = 131072;
-
-const CLUSTER_BYTES: u64 = 32768;
-
-// The most pages of a space.
-const MOST_PAGES: u64 = 262016;
-
-// The last ordinal of a space, which gives none.
-const LAST_SPACE: u32 = 268435455;
 
 // The first field that is out of its limit.
 fn field_refused(creation: &SpaceCreation) -> Option<Field>
     ensures { result ≡ field_refused creation.now }
 {
-    if creation.pages < 1 || creation.pages > MOST_PAGES {
+    if creation.pages < 1 || creation.pages > u64::from(MOST_PAGES) {
         return Some(Field::Pages);
     }
-    if creation.queues < 1 || creation.queues > 256 {
+    if creation.queues < 1 || creation.queues > u64::from(MOST_QUEUES) {
         return Some(Field::Queues);
     }
-    if creation.transactions < 1 || creation.transactions > 64 {
+    if creation.transactions < 1 || creation.transactions > u64::from(MOST_TRANSACTIONS) {
         return Some(Field::Transactions);
     }
-    if creation.messages < 1 || creation.messages > 8192 {
+    if creation.messages < 1 || creation.messages > u64::from(MOST_MESSAGES) {
         return Some(Field::Messages);
     }
-    if creation.memory > 16777216 {
+    if creation.memory > MOST_MEMORY {
         return Some(Field::Memory);
     }
     None
@@ -196,6 +186,7 @@ fn make_space<H: Host>(
     ensures served { IfOk result (IsServed (create_space creation.now (site_of manager.old)) manager.old manager.new (H.view host.new)) }
     ensures stop { ChangesOnce (create_space creation.now (site_of manager.old)) manager.old (H.view host.old) (H.view host.new) }
     ensures failed { HasCause (H.view host.old).faults (H.view host.new).faults result }
+    ensures idle { durable (create_space creation.now (site_of manager.old)).site ≡ durable (site_of manager.old) → host.new ≡ host.old }
 {
     let shape = shape_of(creation);
     let number = 8 * content.next_space;
@@ -226,6 +217,7 @@ fn create_space<H: Host>(
     ensures served { IfOk result (IsServed (create_space creation.now (site_of manager.old)) manager.old manager.new (H.view host.new)) }
     ensures stop { ChangesOnce (create_space creation.now (site_of manager.old)) manager.old (H.view host.old) (H.view host.new) }
     ensures failed { HasCause (H.view host.old).faults (H.view host.new).faults result }
+    ensures idle { durable (create_space creation.now (site_of manager.old)).site ≡ durable (site_of manager.old) → host.new ≡ host.old }
 {
     match admitted(manager, creation) {
         Err(refusal) => Ok(refusal),
@@ -245,6 +237,7 @@ pub fn serve_space<H: Host>(
     ensures served { IfOk result (IsServed (space_step (site_of manager.old) request.now) manager.old manager.new (H.view host.new)) }
     ensures stop { ChangesOnce (space_step (site_of manager.old) request.now) manager.old (H.view host.old) (H.view host.new) }
     ensures failed { CountsFailure result (H.view host.old).faults (H.view host.new).faults }
+    ensures idle { durable (space_step (site_of manager.old) request.now).site ≡ durable (site_of manager.old) → host.new ≡ host.old }
 {
     match request {
         SpaceRequest::Create(creation) => Ok(create_space(alloc, host, manager, creation)?),

@@ -1,28 +1,22 @@
 -- What was given with a key, and what is left without it.
 use Rattle.std.proofs.Common.{◌≡◌, ℕ, suc, ◌<◌, ◌≤◌, true, false, List, [], ◌∷◌, length, get_or, map, Option, Some, None, refl, sym, ap, inl, inr, ◌∙◌, arith}
 use Rattle.std.proofs.lemmas.Bool.{cases_Bool}
+use Rattle.std.proofs.lemmas.Slice.Eq.{bytes_eq-Decides}
 use Rattle.std.specs.Prelude.{if◌then◌else◌}
 use Rattle.std.specs.List.{position, position_or_len, remove}
 use Rattle.tq_model.specs.declared.grammar.Key.{Key}
-use Rattle.tq_model.specs.declared.grammar.Key.TheVariants as keys
 use Rattle.tq_model.specs.declared.grammar.Value.{Value}
-use Rattle.tq_model.specs.Grammar.{is_same_key, value_given}
+use Rattle.tq_model.specs.Grammar.{is_same_key, key_word, value_given}
 use Rattle.tq_script.proofs.Positions.{position-some, position-none}
 use Rattle.tq_script.specs.Rows.{given_of}
 use Rattle.tq_script.specs.declared.given.Given.{Given}
 
-pub same_key : (one other : Key) → is_same_key one other ≡ true → one ≡ other
-same_key keys.Site keys.Site e = refl
-same_key keys.Dev keys.Dev e = refl
-same_key keys.Pages keys.Pages e = refl
-same_key keys.Queues keys.Queues e = refl
-same_key keys.Transactions keys.Transactions e = refl
-same_key keys.Messages keys.Messages e = refl
-same_key keys.Error keys.Error e = refl
-same_key keys.Memory keys.Memory e = refl
-same_key keys.Flags keys.Flags e = refl
-same_key keys.Data keys.Data e = refl
-same_key _ _ e = absurd (cc)
+pub same_word : (one other : Key) → is_same_key one other ≡ true → key_word one ≡ key_word other
+same_word one other e = (bytes_eq-Decides (key_word one) (key_word other)).0 e
+
+-- another key than one of two that are the same is another than both
+pub other_key : (key other third : Key) → is_same_key other key ≡ false → is_same_key key third ≡ true → is_same_key other third ≡ false
+other_key key other third differ same = rw (← same_word key third same) differ
 
 -- where the key stands first
 abbrev place : Key → List Given → ℕ
@@ -57,7 +51,7 @@ others : (key other : Key) (given : List Given) → is_same_key other key ≡ fa
     value_given other (map given_of (remove given (place key given))) ≡ value_given other (map given_of given)
 others key other [] differ l = absurd (omega arith)
 others key other (g ∷ given) differ l = elim (cases_Bool (is_same_key key g.key)) [
-  | inl h ↦ let passed : is_same_key other g.key ≡ false = rw (← same_key key g.key h) differ in rw (place-here key g given h, passed) refl
+  | inl h ↦ rw (place-here key g given h, other_key key other g.key differ h) refl
   | inr h ↦ let later = place-later key g given h in
       rw later (value_given-later other g (remove given (place key given)) given (others key other given differ (omega arith)))
 ]

@@ -4,6 +4,7 @@ pub mod KeyedValues
 pub mod LineEnds
 pub mod OfRows
 pub mod Positions
+pub mod RequestLemmas
 pub mod Scans
 pub mod Spelt
 pub mod TextRuns

@@ -1,10 +1,11 @@
 -- Values that are of the kinds of a row.
-use Rattle.std.specs.Prelude.{◌≡◌, ◌≤◌, ◌⊎◌, List, [], ◌∷◌}
+use Rattle.std.specs.Prelude.{◌≡◌, ◌≤◌, false, List, [], ◌∷◌, Option, Some, None}
+use Rattle.tq_model.specs.declared.grammar.Key.{Key}
 use Rattle.tq_model.specs.declared.grammar.Kind.{Kind}
 use Rattle.tq_model.specs.declared.grammar.Kind.TheVariants as kinds
 use Rattle.tq_model.specs.declared.grammar.Value.{Value}
 use Rattle.tq_model.specs.declared.grammar.Value.TheVariants.{Number, Name, ErrorName, Text, Flags}
-use Rattle.tq_model.specs.Grammar.{KeyRow, Given}
+use Rattle.tq_model.specs.Grammar.{KeyRow, Given, key_among, key_word, value_given}
 
 abbrev pub IsOfKind : Kind → Value → Type 0
 IsOfKind kinds.Device (Number n) = n ≤ 7
@@ -23,11 +24,13 @@ AreOfKinds [] (value ∷ values) = ⊥
 AreOfKinds (kind ∷ kinds) [] = ⊥
 AreOfKinds (kind ∷ kinds) (value ∷ values) = IsOfKind kind value × AreOfKinds kinds values
 
--- a key of one of the rows, with a value of its kind
-abbrev pub IsOfRows : List KeyRow → Given → Type 0
-IsOfRows [] g = ⊥
-IsOfRows (row ∷ rows) g = ((g.key ≡ row.key) × IsOfKind row.kind g.value) ⊎ IsOfRows rows g
+-- What a row asks for of its key: a value of its kind, and none only where the key may be left out. Of a key without a row there is none.
+abbrev pub IsOfRow : Option KeyRow → Option Value → Type 0
+IsOfRow (Some row) (Some value) = IsOfKind row.kind value
+IsOfRow (Some row) None = row.required ≡ false
+IsOfRow None (Some value) = ⊥
+IsOfRow None None = Unit {0}
 
+-- each key was given as its row asks for it
 abbrev pub AreOfRows : List KeyRow → List Given → Type 0
-AreOfRows rows [] = Unit {0}
-AreOfRows rows (g ∷ given) = IsOfRows rows g × AreOfRows rows given
+AreOfRows rows given = (key : Key) → IsOfRow (key_among rows (key_word key)) (value_given key given)

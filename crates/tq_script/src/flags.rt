@@ -60,23 +60,6 @@ fn flag_word(flag: Flag) -> &'static [u8]
 {
     match flag {
         Flag::NoFlags => b"TPNOFLAGS",
-        Flag::Priority => b"TPQPRIORITY",
-        Flag::TimeAbsolute => b"TPQTIME_ABS",
-        Flag::TimeRelative => b"TPQTIME_REL",
-        Flag::ExpirationAbsolute => b"TPQEXPTIME_ABS",
-        Flag::ExpirationRelative => b"TPQEXPTIME_REL",
-        Flag::ExpirationNone => b"TPQEXPTIME_NONE",
-        Flag::Top => b"TPQTOP",
-        Flag::BeforeMessage => b"TPQBEFOREMSGID",
-        Flag::Correlation => b"TPQCORRID",
-        Flag::ReplyQueue => b"TPQREPLYQ",
-        Flag::FailureQueue => b"TPQFAILUREQ",
-        Flag::DeliveryQuality => b"TPQDELIVERYQOS",
-        Flag::ReplyQuality => b"TPQREPLYQOS",
         Flag::MessageId => b"TPQMSGID",
-        Flag::GetByMessageId => b"TPQGETBYMSGID",
-        Flag::GetByCorrelation => b"TPQGETBYCORRID",
-        Flag::Peek => b"TPQPEEK",
-        Flag::Wait => b"TPQWAIT",
     }
 }

@@ -1,13 +1,13 @@
 //! The keyed values behind a verb, and what was given with a key.
 
-ghost use Rattle.std.specs.Prelude.{◌≡◌, false, map, IfOk};
+ghost use Rattle.std.specs.Prelude.{◌≡◌, false, map};
 ghost use Rattle.std.specs.List.{position};
 ghost use Rattle.std.specs.Option.{option_copied};
-ghost use Rattle.tq_model.specs.Grammar.{error_in, flags_in, is_same_key, number_given, number_in, number_needed, text_in, value_given};
+ghost use Rattle.tq_model.specs.Grammar.{error_in, flags_in, is_same_key, number_given, number_in, optional_number_in, text_in, value_given};
 ghost use Rattle.tq_model.specs.declared.grammar.Key as grammar_key;
 ghost use Rattle.tq_script.specs.Rows.{given_of};
 
-use std::alloc::{AllocError, Global};
+use std::alloc::Global;
 use tq_model::{Flags, Key, Value};
 use tq_types::{Body, Name};
 
@@ -60,39 +60,44 @@ pub fn number_given(key: Key, given: &[Given]) -> Option<u64>
     }
 }
 
-/// The number of a key that has to be given.
-pub fn number_needed(key: Key, given: &[Given]) -> u64
-    ensures { result ≡ number_needed key (map given_of given.now) }
+/// The number that was given with the key, which may be left out.
+pub fn optional_number_given(key: Key, given: &[Given]) -> Option<Option<u64>>
+    ensures { result ≡ optional_number_in (value_given key (map given_of given.now)) }
 {
-    number_given(key, given).unwrap_or(0)
+    match value_given(key, given) {
+        None => Some(None),
+        Some(Value::Number(number)) => Some(Some(*number)),
+        Some(_) => None,
+    }
 }
 
 /// The name of the error queue that was given with the key.
-pub fn error_given(key: Key, given: &[Given]) -> Option<Name>
+pub fn error_given(key: Key, given: &[Given]) -> Option<Option<Name>>
     ensures { result ≡ error_in (value_given key (map given_of given.now)) }
 {
     match value_given(key, given) {
-        Some(Value::ErrorName(name)) => *name,
+        Some(Value::ErrorName(name)) => Some(*name),
         _ => None,
     }
 }
 
-/// The flags of the value; none where it has none.
-pub fn flags_in(alloc: Global, value: Option<Value>) -> Flags
+/// The flags of the value; no flags where there is none.
+pub fn flags_in(alloc: Global, value: Option<Value>) -> Option<Flags>
     ensures { result ≡ flags_in value }
 {
     match value {
-        Some(Value::Flags(flags)) => flags,
-        _ => Flags::new(alloc),
+        None => Some(Flags::new(alloc)),
+        Some(Value::Flags(flags)) => Some(flags),
+        Some(_) => None,
     }
 }
 
-/// The bytes of the value; none where it has none.
-pub fn text_in(alloc: Global, value: Option<Value>) -> Result<Body, AllocError>
-    ensures { IfOk result (λ body. body ≡ text_in value) }
+/// The bytes of the value.
+pub fn text_in(value: Option<Value>) -> Option<Body>
+    ensures { result ≡ text_in value }
 {
     match value {
-        Some(Value::Text(body)) => Ok(body),
-        _ => Body::new(alloc, &[]),
+        Some(Value::Text(body)) => Some(body),
+        _ => None,
     }
 }

@@ -1,4 +1,4 @@
-ghost use Rattle.std.specs.Prelude.{◌≡◌, ◌<◌, ◌^◌, List, IfOk, map};
+ghost use Rattle.std.specs.Prelude.{◌≡◌, ◌<◌, ◌^◌, List, IfOk, IsSome, map};
 ghost use Rattle.tq_model.specs.Grammar as grammar;
 ghost use Rattle.tq_model.specs.Grammar.{dequeue_words, enqueue_words, line_request, request_of, row_of, scan, scanned, space_creation, space_keys};
 ghost use Rattle.tq_script.specs.Cutting.{words_of};
@@ -7,7 +7,7 @@ ghost use Rattle.tq_script.specs.Rows.{given_of};
 
 use crate::cutting::{LONGEST_LINE, Words};
 use crate::given::{
-    Given, error_given, flags_in, number_given, number_needed, take_given, text_in,
+    Given, error_given, flags_in, number_given, optional_number_given, take_given, text_in,
 };
 use crate::reading::read_words;
 use crate::table::verb_named;
@@ -51,100 +51,97 @@ fn verb_request(
         (scan (row_of verb).positional (row_of verb).keyed (words_of words.entry.column words.entry.rest.now))) }
 {
     match read_words(alloc, verb, words) {
-        Ok((values, given)) => request_of(alloc, verb, &values, given),
+        Ok((values, given)) => Ok(request_of(alloc, verb, &values, given).unwrap()),
         Err(Unread::Misfit(column)) => Ok(Request::Bad(column)),
         Err(Unread::Missing) => Ok(Request::Bad(size + 1)),
         Err(Unread::Memory) => Err(AllocError),
     }
 }
 
-/// What a verb with these values asks for.
-fn request_of(
-    alloc: Global,
-    verb: Verb,
-    values: &[Value],
-    given: Vec<Given>,
-) -> Result<Request, AllocError>
+/// What a verb with these values asks for. There is a request, since they are of the verb's row.
+fn request_of(alloc: Global, verb: Verb, values: &[Value], given: Vec<Given>) -> Option<Request>
     requires values { AreOfKinds (row_of verb).positional values.now }
     requires given { AreOfRows (row_of verb).keyed (map given_of given.items) }
-    ensures { IfOk result (λ request. request ≡ request_of verb values.now (map given_of given.items)) }
+    ensures request { result ≡ request_of verb values.now (map given_of given.items) }
+    ensures some { IsSome result }
 {
     match verb {
-        Verb::Boot => Ok(Request::Boot),
-        Verb::CreateDevice => Ok(create_device(values, &given)),
-        Verb::ListDevice => Ok(list_device(values)),
-        Verb::CreateSpace => Ok(create_space(values, &given)),
-        Verb::CreateQueue => Ok(create_queue(values)),
+        Verb::Boot => Some(Request::Boot),
+        Verb::CreateDevice => create_device(values, &given),
+        Verb::ListDevice => list_device(values),
+        Verb::CreateSpace => create_space(values, &given),
+        Verb::CreateQueue => create_queue(values),
         Verb::Enqueue => enqueue(alloc, values, given),
-        Verb::Dequeue => Ok(dequeue(alloc, values, given)),
+        Verb::Dequeue => dequeue(alloc, values, given),
     }
 }
 
-fn create_device(values: &[Value], given: &[Given]) -> Request
+fn create_device(values: &[Value], given: &[Given]) -> Option<Request>
     requires { AreOfKinds (row_of Verb.CreateDevice).positional values.now }
     ensures { result ≡ request_of Verb.CreateDevice values.now (map given_of given.now) }
 {
     let [Value::Number(dev), Value::Number(clusters)] = values else {
-        return Request::Nothing;
+        return None;
     };
-    Request::Device(DeviceRequest::Create(Creation {
+    Some(Request::Device(DeviceRequest::Create(Creation {
         dev: *dev as u8,
         clusters: *clusters,
-        site: number_given(Key::Site, given),
-    }))
+        site: optional_number_given(Key::Site, given)?,
+    })))
 }
 
-fn list_device(values: &[Value]) -> Request
+fn list_device(values: &[Value]) -> Option<Request>
     requires { AreOfKinds (row_of Verb.ListDevice).positional values.now }
     ensures { (given : List grammar.Given) → result ≡ request_of Verb.ListDevice values.now given }
 {
     let [Value::Number(dev)] = values else {
-        return Request::Nothing;
+        return None;
     };
-    Request::Device(DeviceRequest::List(*dev as u8))
+    Some(Request::Device(DeviceRequest::List(*dev as u8)))
 }
 
-fn create_space(values: &[Value], given: &[Given]) -> Request
+fn create_space(values: &[Value], given: &[Given]) -> Option<Request>
     requires { AreOfRows space_keys (map given_of given.now) }
     ensures { result ≡ request_of Verb.CreateSpace values.now (map given_of given.now) }
 {
     let [Value::Name(name)] = values else {
-        return Request::Nothing;
+        return None;
     };
-    Request::Space(SpaceRequest::Create(space_creation(*name, given)))
+    let creation = space_creation(*name, given)?;
+    Some(Request::Space(SpaceRequest::Create(creation)))
 }
 
-fn space_creation(name: Name, given: &[Given]) -> SpaceCreation
+fn space_creation(name: Name, given: &[Given]) -> Option<SpaceCreation>
     requires { AreOfRows space_keys (map given_of given.now) }
     ensures { result ≡ space_creation name (map given_of given.now) }
 {
-    SpaceCreation {
+    Some(SpaceCreation {
         name,
-        dev: number_needed(Key::Dev, given) as u8,
-        pages: number_needed(Key::Pages, given),
-        queues: number_needed(Key::Queues, given),
-        transactions: number_needed(Key::Transactions, given),
-        messages: number_needed(Key::Messages, given),
-        error: error_given(Key::Error, given),
-        memory: number_needed(Key::Memory, given),
-    }
+        dev: number_given(Key::Dev, given)? as u8,
+        pages: number_given(Key::Pages, given)?,
+        queues: number_given(Key::Queues, given)?,
+        transactions: number_given(Key::Transactions, given)?,
+        messages: number_given(Key::Messages, given)?,
+        error: error_given(Key::Error, given)?,
+        memory: number_given(Key::Memory, given)?,
+    })
 }
 
-fn create_queue(values: &[Value]) -> Request
+fn create_queue(values: &[Value]) -> Option<Request>
     ensures { (given : List grammar.Given) → result ≡ request_of Verb.CreateQueue values.now given }
 {
     let [Value::Name(space), Value::Name(queue)] = values else {
-        return Request::Nothing;
+        return None;
     };
-    Request::Space(SpaceRequest::CreateQueue(QueueCreation {
+    Some(Request::Space(SpaceRequest::CreateQueue(QueueCreation {
         space: *space,
         queue: *queue,
-    }))
+    })))
 }
 
-fn enqueue(alloc: Global, values: &[Value], given: Vec<Given>) -> Result<Request, AllocError>
+fn enqueue(alloc: Global, values: &[Value], given: Vec<Given>) -> Option<Request>
     requires { AreOfKinds (row_of Verb.Enqueue).positional values.now }
-    ensures { IfOk result (λ request. request ≡ request_of Verb.Enqueue values.now (map given_of given.items)) }
+    ensures { result ≡ request_of Verb.Enqueue values.now (map given_of given.items) }
 {
     let [
         Value::Number(session),
@@ -152,42 +149,27 @@ fn enqueue(alloc: Global, values: &[Value], given: Vec<Given>) -> Result<Request
         Value::Name(queue),
     ] = values
     else {
-        return Ok(Request::Nothing);
+        return None;
     };
     let words = enqueue_words(alloc, *space, *queue, given)?;
-    Ok(Request::Call(CallRequest::Enqueue(*session as u8, words)))
+    Some(Request::Call(CallRequest::Enqueue(*session as u8, words)))
 }
 
-fn enqueue_words(
-    alloc: Global,
-    space: Name,
-    queue: Name,
-    given: Vec<Given>,
-) -> Result<EnqueueWords, AllocError>
-    ensures { IfOk result (λ words. words ≡ enqueue_words space queue (map given_of given.items)) }
+fn enqueue_words(alloc: Global, space: Name, queue: Name, given: Vec<Given>) -> Option<EnqueueWords>
+    ensures { result ≡ enqueue_words space queue (map given_of given.items) }
 {
     let mut given = given;
-    let flags = flags_in(alloc, take_given(Key::Flags, &mut given));
-    let body = text_in(alloc, take_given(Key::Data, &mut given))?;
-    Ok(EnqueueWords {
+    let flags = flags_in(alloc, take_given(Key::Flags, &mut given))?;
+    let body = text_in(take_given(Key::Data, &mut given))?;
+    Some(EnqueueWords {
         space,
         queue,
-        notran: false,
         flags,
-        prio: None,
-        deqtime: None,
-        exptime: None,
-        msgid: None,
-        corr: None,
-        replyq: None,
-        failq: None,
-        qos: None,
-        rqos: None,
         body,
     })
 }
 
-fn dequeue(alloc: Global, values: &[Value], given: Vec<Given>) -> Request
+fn dequeue(alloc: Global, values: &[Value], given: Vec<Given>) -> Option<Request>
     requires { AreOfKinds (row_of Verb.Dequeue).positional values.now }
     ensures { result ≡ request_of Verb.Dequeue values.now (map given_of given.items) }
 {
@@ -197,22 +179,19 @@ fn dequeue(alloc: Global, values: &[Value], given: Vec<Given>) -> Request
         Value::Name(queue),
     ] = values
     else {
-        return Request::Nothing;
+        return None;
     };
-    let words = dequeue_words(alloc, *space, *queue, given);
-    Request::Call(CallRequest::Dequeue(*session as u8, words))
+    let words = dequeue_words(alloc, *space, *queue, given)?;
+    Some(Request::Call(CallRequest::Dequeue(*session as u8, words)))
 }
 
-fn dequeue_words(alloc: Global, space: Name, queue: Name, given: Vec<Given>) -> DequeueWords
+fn dequeue_words(alloc: Global, space: Name, queue: Name, given: Vec<Given>) -> Option<DequeueWords>
     ensures { result ≡ dequeue_words space queue (map given_of given.items) }
 {
     let mut given = given;
-    DequeueWords {
+    Some(DequeueWords {
         space,
         queue,
-        notran: false,
-        flags: flags_in(alloc, take_given(Key::Flags, &mut given)),
-        msgid: None,
-        corr: None,
-    }
+        flags: flags_in(alloc, take_given(Key::Flags, &mut given))?,
+    })
 }

@@ -8,7 +8,7 @@ use Rattle.std.proofs.lemmas.List.Sums.{sum_by-cons, sum_by-insert, sum_by-remov
 use Rattle.tq_types.specs.declared.identifiers.MsgId.{MsgId}
 use Rattle.tq_model.specs.declared.space.Change.{Change}
 use Rattle.tq_model.specs.declared.space.QueueDef.{QueueDef}
-use Rattle.tq_model.specs.Space.{Entry, Queue, change_first, has_id, holds_id, with_entry, without_entry, stands_before}
+use Rattle.tq_model.specs.Space.{Owner, Entry, Queue, change_first, has_id, holds_id, with_entry, without_entry, stands_before}
 use Rattle.tq_model.specs.Moves.{IndexedQueue, the_queue, has_index, on_queue, entry_inserted, entry_removed, entry_replaced, entry_with_id, after_change, indexed_holds, queue_added, queue_dropped, queue_of, comes_before}
 use Rattle.tq_model.specs.Room.{pages_of_entry, queue_pages}
 use Rattle.tq_space.specs.Plain.{HasNoEntries}
@@ -128,17 +128,17 @@ pub any_removed : (index : ℕ) (id : MsgId) (qs : List IndexedQueue) → list_a
 any_removed index id qs = any_changed (has_index index) (indexed_holds id) (on_queue (without_entry id)) (λ q. refl) qs
 
 -- an entry goes and comes again, in a queue that is there
-pub total_replaced : (g : Queue → ℕ) (w : Entry → ℕ) → ((item : Entry) (q : Queue) → g (with_entry item q) ≡ g q + w item)
+pub total_replaced : (owners : ℕ → Owner) (g : Queue → ℕ) (w : Entry → ℕ) → ((item : Entry) (q : Queue) → g (with_entry item q) ≡ g q + w item)
     → ((q : Queue) (at : ℕ) (d : Entry) → at < length q.items → g (record q { items = remove q.items at }) + w (get_or q.items at d) ≡ g q)
-    → (c : Change) → ((item : Entry) → w (after_change c item) ≡ w item) → (qs : List IndexedQueue) → list_any (has_index c.queue) qs ≡ true
-    → total g (entry_replaced c (entry_with_id c.id qs) qs) ≡ total g qs
-total_replaced g w more less c same qs there =
-    elim (entry_with_id c.id qs) as (λ o. entry_with_id c.id qs ≡ o → total g (entry_replaced c o qs) ≡ total g qs) [
+    → (c : Change) → ((item : Entry) → w (after_change owners c item) ≡ w item) → (qs : List IndexedQueue) → list_any (has_index c.queue) qs ≡ true
+    → total g (entry_replaced owners c (entry_with_id c.id qs) qs) ≡ total g qs
+total_replaced owners g w more less c same qs there =
+    elim (entry_with_id c.id qs) as (λ o. entry_with_id c.id qs ≡ o → total g (entry_replaced owners c o qs) ≡ total g qs) [
       | None ↦ λ e. refl
       | Some item ↦ λ e.
           let gone = total_removed g w less c.id item qs e in
           let still : list_any (has_index c.queue) (entry_removed c.id qs) ≡ true = any_removed c.queue c.id qs ∙ there in
-          let again = total_inserted g (w (after_change c item)) (after_change c item) (more (after_change c item)) c.queue (entry_removed c.id qs) still in
+          let again = total_inserted g (w (after_change owners c item)) (after_change owners c item) (more (after_change owners c item)) c.queue (entry_removed c.id qs) still in
           let kept = same item in
           omega arith
     ] refl

@@ -9,7 +9,7 @@ use Rattle.std.proofs.lemmas.List.Sums.{sum_by-cons}
 use Rattle.tq_types.specs.declared.messages.Entry.{Entry as HeldEntry}
 use Rattle.tq_types.specs.declared.identifiers.MsgId.{MsgId}
 use Rattle.tq_model.specs.Space.{Entry, has_id}
-use Rattle.tq_model.specs.Moves.{IndexedQueue, entry_view, has_index, entry_with_id, indexed_holds}
+use Rattle.tq_model.specs.Moves.{IndexedQueue, entry_view, has_index, entry_with_id, indexed_holds, session_owners}
 use Rattle.tq_space.specs.declared.shelf.HeldQueue.{HeldQueue}
 use Rattle.tq_space.specs.Slots.{slot_entry, slot_at, entry_at, slot_test, IsPlainSlot}
 use Rattle.tq_space.specs.Plain.{HasNoExpirations}
@@ -64,7 +64,7 @@ plain-lasts : (o : Option HeldEntry) → IsPlainSlot o → (slot_entry o).messag
 plain-lasts None h = refl
 plain-lasts (Some e) h = h.expiration
 
-some-entry : (o : Option HeldEntry) → is_some o ≡ true → option_map entry_view o ≡ Some (slot_entry o)
+some-entry : (o : Option HeldEntry) → is_some o ≡ true → option_map (entry_view session_owners) o ≡ Some (slot_entry o)
 some-entry None h = cc
 some-entry (Some e) h = refl
 
@@ -91,7 +91,7 @@ module _ (slots : List (Option HeldEntry)) (queues : List HeldQueue) (listed : I
         find-none test (map (entry_at slots) d.keys.items) (omega (arith, place-entries slots test d.keys.items kept, length-map d.keys.items (entry_at slots)))
 
     pub answer_at : (place key : ℕ) → position (λ k. slot_test test (slot_at slots k)) d.keys.items ≡ Some place → key ≡ get_or d.keys.items place key
-        → option_map entry_view (slot_at slots key) ≡ find test (map (entry_at slots) d.keys.items)
+        → option_map (entry_view session_owners) (slot_at slots key) ≡ find test (map (entry_at slots) d.keys.items)
     answer_at place key found is_key =
         let items = map (entry_at slots) d.keys.items in
         let parts = position-found (λ (k : ℕ). slot_test test (slot_at slots k)) d.keys.items place found in
@@ -105,7 +105,7 @@ module _ (slots : List (Option HeldEntry)) (queues : List HeldQueue) (listed : I
   pub entry_at_id : (id : MsgId) (at : ℕ) (d : HeldQueue) → d ≡ get_or queues at d
       → position (λ (q : HeldQueue). is_some (position (λ k. slot_test (has_id id) (slot_at slots k)) q.keys.items)) queues ≡ Some at
       → (place key : ℕ) → position (λ k. slot_test (has_id id) (slot_at slots k)) d.keys.items ≡ Some place → key ≡ get_or d.keys.items place key
-      → option_map entry_view (slot_at slots key) ≡ entry_with_id id (map (indexed_at slots) queues)
+      → option_map (entry_view session_owners) (slot_at slots key) ≡ entry_with_id id (map (indexed_at slots) queues)
   entry_at_id id at d is_d holds place key found is_key =
       let view = map (indexed_at slots) queues in
       let parts = position-found (λ (x : HeldQueue). is_some (position (λ k. slot_test (has_id id) (slot_at slots k)) x.keys.items)) queues at holds in

@@ -5,7 +5,7 @@ use Rattle.std.proofs.lemmas.List.{map-set, get_or-map}
 use Rattle.std.proofs.lemmas.List.Sums.{sum_by-insert, get_or-le-sum_by}
 use Rattle.tq_types.specs.declared.messages.Entry.{Entry}
 use Rattle.tq_model.specs.Space.{stands_before, with_entry}
-use Rattle.tq_model.specs.Moves.{entry_view, queue_of, has_index, on_queue, entry_inserted}
+use Rattle.tq_model.specs.Moves.{entry_view, queue_of, has_index, on_queue, entry_inserted, session_owners}
 use Rattle.tq_space.specs.declared.shelf.HeldQueue.{HeldQueue}
 use Rattle.tq_space.specs.Slots.{slot_entry, slot_at, entry_at, slot_test, slot_count, IsPlainSlot, label_before}
 use Rattle.tq_space.specs.Plain.{IsPlainEntry}
@@ -58,7 +58,7 @@ module _ (slots slots' : List (Option Entry)) (queues : List HeldQueue) (listed 
     plain = plain_new;
   }
 
-  items_new : map (entry_at slots') q'.keys.items ≡ insert (map (entry_at slots) (get_or queues at d).keys.items) place (entry_view e)
+  items_new : map (entry_at slots') q'.keys.items ≡ insert (map (entry_at slots) (get_or queues at d).keys.items) place (entry_view session_owners e)
   items_new =
       let keys = (get_or queues at d).keys.items in
       let bound = get_or-le-sum_by (λ (q : HeldQueue). count_by (λ x. x == key) q.keys.items) queues at d within in
@@ -68,24 +68,24 @@ module _ (slots slots' : List (Option Entry)) (queues : List HeldQueue) (listed 
       ∙ λ i. insert (same i) place (slot_entry (stored i))
 
   seen_new : map (indexed_at slots') (set queues at q')
-      ≡ set (map (indexed_at slots) queues) at (record { index = (get_or queues at d).index; queue = queue_of (get_or queues at d).def (insert (map (entry_at slots) (get_or queues at d).keys.items) place (entry_view e)) })
+      ≡ set (map (indexed_at slots) queues) at (record { index = (get_or queues at d).index; queue = queue_of (get_or queues at d).def (insert (map (entry_at slots) (get_or queues at d).keys.items) place (entry_view session_owners e)) })
   seen_new =
       map-set (indexed_at slots') queues at q'
       ∙ λ i. set (frame slots slots' key others queues none_yet i) at (record { index = keyed.index i; queue = queue_of (keyed.def i) (items_new i) })
 
   pub inserted : (index : ℕ) → position (λ q. q.index == index) queues ≡ Some at
       → place ≡ position_or_len (λ k. slot_test (label_before (get_or queues at d).def.order e.label) (slot_at slots k)) (get_or queues at d).keys.items
-      → map (indexed_at slots') (set queues at q') ≡ entry_inserted index (entry_view e) (map (indexed_at slots) queues)
+      → map (indexed_at slots') (set queues at q') ≡ entry_inserted index (entry_view session_owners e) (map (indexed_at slots) queues)
   inserted index found is_place =
       let q = get_or queues at d in
       let view = map (indexed_at slots) queues in
       let first : position_or_len (has_index index) view ≡ at =
       position_or_len-map (indexed_at slots) (has_index index) queues ∙ (position-found (λ (x : HeldQueue). x.index == index) queues at found).0 in
       let there : get_or view at (indexed_at slots d) ≡ indexed_at slots q = get_or-map (indexed_at slots) queues at d (indexed_at slots d) within in
-      let spot : place ≡ position_or_len (stands_before q.def.order (entry_view e)) (map (entry_at slots) q.keys.items) =
+      let spot : place ≡ position_or_len (stands_before q.def.order (entry_view session_owners e)) (map (entry_at slots) q.keys.items) =
       is_place ∙ sym (place-entries slots (label_before q.def.order e.label) q.keys.items (all_kept slots queues listed at d within)) in
       seen_new
-      ∙ (λ i. set view at (record { index = q.index; queue = queue_of q.def (insert (map (entry_at slots) q.keys.items) (spot i) (entry_view e)) }))
-      ∙ (λ i. set view (sym first i) (on_queue (with_entry (entry_view e)) (sym there i)))
-      ∙ ap (λ (n : ℕ). set view (position_or_len (has_index index) view) (on_queue (with_entry (entry_view e)) (get_or view n (indexed_at slots d)))) (sym first)
-      ∙ sym (change_first-at (has_index index) (on_queue (with_entry (entry_view e))) (indexed_at slots d) view)
+      ∙ (λ i. set view at (record { index = q.index; queue = queue_of q.def (insert (map (entry_at slots) q.keys.items) (spot i) (entry_view session_owners e)) }))
+      ∙ (λ i. set view (sym first i) (on_queue (with_entry (entry_view session_owners e)) (sym there i)))
+      ∙ ap (λ (n : ℕ). set view (position_or_len (has_index index) view) (on_queue (with_entry (entry_view session_owners e)) (get_or view n (indexed_at slots d)))) (sym first)
+      ∙ sym (change_first-at (has_index index) (on_queue (with_entry (entry_view session_owners e))) (indexed_at slots d) view)

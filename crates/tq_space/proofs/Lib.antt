@@ -8,7 +8,7 @@ pub mod Spares
 pub mod Definitions
 pub mod Counts
 pub mod Steps
-pub mod Taken
+pub mod OptionLemmas
 pub mod PlanMoves
 pub mod LogLemmas
 pub mod Indices

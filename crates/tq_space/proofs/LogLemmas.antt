@@ -1,16 +1,13 @@
 -- Plans that the log of a space takes.
-use Rattle.std.proofs.Common.{◌≡◌, ◌≤◌, ℕ, ◌+◌, Bool, true, false, List, [], ◌∷◌, length, length-append, Option, Some, refl, sym, ap, subst, ◌∙◌, arith, add-zero}
-use Rattle.std.specs.Prelude.{if◌then◌else◌}
+use Rattle.std.proofs.Common.{◌≡◌, ◌≤◌, ℕ, ◌+◌, true, false, List, [], ◌∷◌, length, Option, refl, sym, ap, subst, ◌∙◌, arith, add-zero}
 use Rattle.tq_types.specs.declared.identifiers.Arrival.{Arrival}
 use Rattle.tq_types.specs.declared.identifiers.MsgId.{MsgId}
 use Rattle.tq_types.specs.declared.messages.AskedQos.{AskedQos}
 use Rattle.tq_types.specs.declared.messages.Entry.{Entry}
-use Rattle.tq_types.specs.declared.messages.Mark.TheVariants.{Free}
 use Rattle.tq_types.specs.declared.messages.Qos.{Qos}
 use Rattle.tq_types.specs.declared.messages.Qos.TheVariants.{Persistent}
 use Rattle.std.proofs.lemmas.List.Elements.{All-contains}
 use Rattle.tq_model.specs.declared.calls.EnqueueAsk.{EnqueueAsk}
-use Rattle.tq_model.specs.declared.calls.EnqueueCall.{EnqueueCall}
 use Rattle.tq_model.specs.declared.calls.DequeueAsk.{DequeueAsk}
 use Rattle.tq_model.specs.declared.record.SpaceRecord.{SpaceRecord}
 use Rattle.tq_model.specs.declared.record.SpaceRecord.TheVariants.{Added, Gone, QueueMade}
@@ -19,14 +16,14 @@ use Rattle.tq_model.specs.declared.space.SpaceMove.TheVariants.{Insert}
 use Rattle.tq_model.specs.Moves.{IndexedSpace, space_of, moved, moved_by, purged_of}
 use Rattle.tq_model.specs.EnqueueStep.{quality, next_id}
 use Rattle.tq_model.specs.SpaceForm.{spelt, id_in, move_of, can_follow, plain_entry, added_length, gone_length, made_length, longest_body}
-use Rattle.tq_model.specs.SpaceLog.{record_of, IsShort, IsSaidBy, spelt_size, size_in_log, CanFollow, CanFollowBy, arrival_of}
+use Rattle.tq_model.specs.SpaceLog.{IsShort, IsSaidBy, spelt_size, size_in_log, CanFollow, CanFollowBy, arrival_of}
 use Rattle.tq_model.specs.Plain.{HasOnlySurvivors, KeepsAllAtCrash, IsOwn, IsBefore, IsNewer}
 use Rattle.tq_model.proofs.RecordMoves.{moved_plain, ids_gone, ids_made, newer_is_new, newer_next}
 use Rattle.tq_model.proofs.Replays.{can_add_from}
 use Rattle.tq_model.proofs.SpaceLogLemmas.{added_size, gone_size, made_size, record_back}
 use Rattle.tq_space.specs.declared.plans.Plan.{Plan}
 use Rattle.tq_space.specs.Applied.{plan_applied}
-use Rattle.tq_space.specs.Loggable.{IsLoggable, IsDurable, size_of, MayFollow}
+use Rattle.tq_space.specs.Loggable.{IsDurable}
 use Rattle.tq_space.specs.NewEntry.{entry_of}
 use Rattle.tq_space.specs.Plain.{IsBareEnqueue, CanInsert, CanMove, CanMoveBy}
 use Rattle.tq_space.specs.Planned.{IsInsertOf, IsRemovalOf, IsCreationOf}

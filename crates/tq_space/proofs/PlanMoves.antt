@@ -4,27 +4,17 @@ use Rattle.std.specs.Prelude.{if◌then◌else◌}
 use Rattle.std.specs.List.{All, Contains, find, list_any, position_or_len}
 use Rattle.std.proofs.lemmas.List.Folds.{list_any_at}
 use Rattle.std.proofs.lemmas.List.Elements.{All-contains}
-use Rattle.tq_types.specs.declared.identifiers.Arrival.{Arrival}
 use Rattle.tq_types.specs.declared.identifiers.MsgId.{MsgId}
-use Rattle.tq_types.specs.declared.messages.Qos.{Qos}
-use Rattle.tq_types.specs.declared.messages.Qos.TheVariants.{Persistent}
-use Rattle.tq_model.specs.declared.calls.EnqueueCall.{EnqueueCall}
-use Rattle.tq_model.specs.declared.calls.EnqueueWords.{EnqueueWords}
-use Rattle.tq_model.specs.declared.calls.EnqueueAsk.{EnqueueAsk}
 use Rattle.tq_model.specs.declared.calls.DequeueAsk.{DequeueAsk}
-use Rattle.tq_model.specs.declared.space.SpaceMove.TheVariants.{Insert, Remove}
-use Rattle.tq_model.specs.declared.record.SpaceRecord.TheVariants.{Added, Gone}
+use Rattle.tq_model.specs.declared.space.SpaceMove.TheVariants.{Remove}
+use Rattle.tq_model.specs.declared.record.SpaceRecord.TheVariants.{Gone}
 use Rattle.tq_model.specs.Space.{Entry, same_id, has_id}
-use Rattle.tq_model.specs.Moves.{IndexedQueue, IndexedSpace, space_of, indexed_holds}
-use Rattle.tq_model.specs.EnqueueStep.{quality, next_id}
-use Rattle.tq_model.specs.SpaceForm.{id_in, plain_entry, move_of, holds_arrival}
-use Rattle.tq_model.specs.Step.{enqueue_call}
+use Rattle.tq_model.specs.Moves.{IndexedQueue, IndexedSpace, indexed_holds}
+use Rattle.tq_model.specs.SpaceForm.{id_in, move_of, holds_arrival}
 use Rattle.tq_model.specs.SpaceLog.{arrival_of}
-use Rattle.tq_model.specs.Plain.{HasOnlySurvivors, KeepsAllAtCrash, AllIds, IsOwn}
+use Rattle.tq_model.specs.Plain.{AllIds, IsOwn}
 use Rattle.tq_space.specs.declared.plans.Plan.{Plan}
-use Rattle.tq_space.specs.Planned.{IsInsertOf, IsRemovalOf, IsAmong}
-use Rattle.tq_space.specs.NewEntry.{entry_of}
-use Rattle.tq_space.specs.Reads.{indexed_named}
+use Rattle.tq_space.specs.Planned.{IsRemovalOf, IsAmong}
 use Rattle.tq_space.proofs.Counts.{found-place}
 
 -- ---- what is found is there
@@ -53,21 +43,6 @@ among_id P item held all among =
     All-contains (λ (x : Entry). P x.message.id) among.queue.queue.items item here among.of_queue
 
 -- ---- plans and records
-
-pub entry_plain : (words : EnqueueWords) (ask : EnqueueAsk) (index : ℕ) (id : MsgId) → ask.call ≡ enqueue_call words 0
-    → entry_of ask index Persistent id ≡ plain_entry index ask.next id words.body
-entry_plain words ask index id is_call = ap (λ (call : EnqueueCall). entry_of (record ask { call = call }) index Persistent id) is_call
-
-pub insert_recorded : (words : EnqueueWords) (ask : EnqueueAsk) (held : IndexedSpace) (plan : Plan) → ask.call ≡ enqueue_call words 0 → KeepsAllAtCrash held
-    → (insert : IsInsertOf ask held plan) → plan.moves ≡ move_of held (Added insert.queue.index ask.next words.body) ∷ []
-insert_recorded words ask held plan is_call plain insert =
-    let queue = insert.queue in
-    let id = next_id (space_of held) ask.next in
-    let named = indexed_named ask.call.queue in
-    let of_queue : queue.queue.qos ≡ Persistent = (All-contains HasOnlySurvivors held.queues queue plain (found_contained named held.queues queue insert.found)).qos in
-    let persistent : quality ask.call.qos queue.queue.qos ≡ Persistent = ap (λ (call : EnqueueCall). quality call.qos queue.queue.qos) is_call ∙ of_queue in
-    insert.moves ∙ ap (λ (qos : Qos). Insert (entry_of ask queue.index qos id) ∷ []) persistent
-    ∙ ap (λ e. Insert e ∷ []) (entry_plain words ask queue.index id is_call)
 
 pub removal_recorded : (ask : DequeueAsk) (held : IndexedSpace) (plan : Plan) → ask.call.peek ≡ false → IsOwn held
     → (removal : IsRemovalOf ask held plan)

@@ -7,7 +7,7 @@ use Rattle.std.proofs.lemmas.List.Sums.{sum_by-remove}
 use Rattle.tq_types.specs.declared.identifiers.MsgId.{MsgId}
 use Rattle.tq_types.specs.declared.messages.Entry.{Entry}
 use Rattle.tq_model.specs.Space.{has_id, without_entry}
-use Rattle.tq_model.specs.Moves.{IndexedQueue, entry_view, queue_of, on_queue, entry_removed, indexed_holds, entry_with_id}
+use Rattle.tq_model.specs.Moves.{IndexedQueue, entry_view, queue_of, on_queue, entry_removed, indexed_holds, entry_with_id, session_owners}
 use Rattle.tq_space.specs.declared.shelf.HeldQueue.{HeldQueue}
 use Rattle.tq_space.specs.Slots.{slot_entry, slot_at, entry_at, slot_test, slot_count, IsPlainSlot}
 use Rattle.tq_space.specs.Shelf.{indexed_at, key_count, IsListed}
@@ -89,14 +89,14 @@ module _ (slots slots' : List (Option Entry)) (queues : List HeldQueue) (listed 
       ∙ ap (λ (n : ℕ). set view (position_or_len (indexed_holds id) view) (on_queue (without_entry id) (get_or view n (indexed_at slots d)))) (sym first)
       ∙ sym (change_first-at (indexed_holds id) (on_queue (without_entry id)) (indexed_at slots d) view)
 
-  some-entry : (o : Option Entry) → is_some o ≡ true → option_map entry_view o ≡ Some (slot_entry o)
+  some-entry : (o : Option Entry) → is_some o ≡ true → option_map (entry_view session_owners) o ≡ Some (slot_entry o)
   some-entry None h = cc
   some-entry (Some e) h = refl
 
   pub taken : (id : MsgId)
       → position (λ (q : HeldQueue). is_some (position (λ k. slot_test (has_id id) (slot_at slots k)) q.keys.items)) queues ≡ Some at
       → position (λ k. slot_test (has_id id) (slot_at slots k)) (get_or queues at d).keys.items ≡ Some place
-      → option_map entry_view (slot_at slots key) ≡ entry_with_id id (map (indexed_at slots) queues)
+      → option_map (entry_view session_owners) (slot_at slots key) ≡ entry_with_id id (map (indexed_at slots) queues)
   taken id holds found =
       let q = get_or queues at d in
       let view = map (indexed_at slots) queues in

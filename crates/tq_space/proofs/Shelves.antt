@@ -10,7 +10,7 @@ use Rattle.std.proofs.lemmas.List.Sums.{sum-map, sum_by-insert, sum_by-cons, pas
 use Rattle.tq_types.specs.declared.identifiers.MsgId.{MsgId}
 use Rattle.tq_types.specs.declared.messages.Entry.{Entry}
 use Rattle.tq_model.specs.Space.{has_id}
-use Rattle.tq_model.specs.Moves.{entry_view, entry_inserted, entry_removed, entry_with_id, has_index, queue_of, queue_added, comes_before}
+use Rattle.tq_model.specs.Moves.{entry_view, entry_inserted, entry_removed, entry_with_id, has_index, queue_of, queue_added, comes_before, session_owners}
 use Rattle.tq_model.specs.declared.space.QueueDef.{QueueDef}
 use Rattle.tq_space.specs.declared.shelf.HeldQueue.{HeldQueue}
 use Rattle.tq_space.specs.Slots.{slot_at, slot_test, entry_at, label_before}
@@ -47,7 +47,7 @@ module _ (slots slots' : List (Option Entry)) (queues : List HeldQueue) (listed 
   pub inserted_listed : IsListed slots' (set queues at q')
   inserted_listed = inserts.listed_new slots slots' queues listed at d within q' key place e others vacant stored keyed_there plain
 
-  pub inserted_seen : map (indexed_at slots') (set queues at q') ≡ entry_inserted e.queue (entry_view e) (map (indexed_at slots) queues)
+  pub inserted_seen : map (indexed_at slots') (set queues at q') ≡ entry_inserted e.queue (entry_view session_owners e) (map (indexed_at slots) queues)
   inserted_seen =
       inserts.inserted slots slots' queues listed at d within q' key place e others vacant stored keyed_there plain e.queue found
       (subst (λ (x : HeldQueue). place ≡ position_or_len (λ k. slot_test (label_before x.def.order e.label) (slot_at slots k)) x.keys.items) is_d is_place)
@@ -79,7 +79,7 @@ module _ (slots slots' : List (Option Entry)) (queues : List HeldQueue) (listed 
   pub removed_seen : map (indexed_at slots') (set queues at q') ≡ entry_removed id (map (indexed_at slots) queues)
   removed_seen = removals.removed slots slots' queues listed at d within' q' place inside key key_there others gone keyed_there' id holds found_there
 
-  pub removed_entry : option_map entry_view (slot_at slots key) ≡ entry_with_id id (map (indexed_at slots) queues)
+  pub removed_entry : option_map (entry_view session_owners) (slot_at slots key) ≡ entry_with_id id (map (indexed_at slots) queues)
   removed_entry = removals.taken slots slots' queues listed at d within' q' place inside key key_there others gone keyed_there' id holds found_there
 
 pub position-passes : {X : Type 0} (test : X → Bool) (xs : List X) (at : ℕ) (d : X) → position test xs ≡ Some at → test (get_or xs at d) ≡ true

@@ -1,27 +1,28 @@
 -- What plans and refusals have to do with the machine's steps.
-use Rattle.std.proofs.Common.{◌≡◌, ℕ, ◌+◌, ◌≤◌, ◌||◌, ◌&&◌, Bool, true, false, cond, not, List, [], ◌∷◌, map, filter, length, get_or, refl, sym, ap, ◌∙◌, subst, arith, Option, Some, None, option_map, eq-eqb, ltb-false}
+use Rattle.std.proofs.Common.{◌≡◌, ℕ, ◌+◌, ◌≤◌, ◌||◌, ◌&&◌, Bool, true, false, cond, not, List, [], ◌∷◌, map, filter, length, get_or, refl, sym, ap, ◌∙◌, subst, arith, Option, Some, None, option_map, Ok, Err, eq-eqb, ltb-false}
 use Rattle.std.specs.Prelude.{if◌then◌else◌, option_to_list}
 use Rattle.std.specs.List.{All, list_any, find, count_by}
 use Rattle.std.proofs.lemmas.List.Elements.{All-head, All-tail}
 use Rattle.std.proofs.lemmas.List.Sums.{sum_by-cons}
-use Rattle.tq_types.specs.declared.identifiers.Arrival.{Arrival}
 use Rattle.tq_types.specs.declared.identifiers.MsgId.{MsgId}
 use Rattle.tq_types.specs.declared.rooms.Lack.{Lack}
-use Rattle.tq_types.specs.declared.messages.Entry.{Entry as HeldEntry}
-use Rattle.tq_model.specs.declared.calls.EnqueueCall.{EnqueueCall}
+use Rattle.tq_model.specs.declared.calls.EnqueueAsk.{EnqueueAsk}
+use Rattle.tq_model.specs.declared.calls.DequeueAsk.{DequeueAsk}
 use Rattle.tq_model.specs.declared.calls.DequeueCall.{DequeueCall}
 use Rattle.tq_model.specs.declared.calls.CallAnswer.{CallAnswer}
-use Rattle.tq_model.specs.declared.calls.CallAnswer.TheVariants.{Enqueued, BadQueue, NoSpace}
+use Rattle.tq_model.specs.declared.calls.CallAnswer.TheVariants.{Enqueued, BadQueue, NoSpace, NoMessage}
 use Rattle.tq_model.specs.declared.space.SpaceMove.{SpaceMove}
 use Rattle.tq_model.specs.declared.space.SpaceMove.TheVariants.{Insert, Remove}
-use Rattle.tq_model.specs.Space.{Space, Queue, Entry, change_first, is_named, queue_named, is_free, is_past, is_expired, purged, purged_queue, with_entry, with_entry_in, without, without_entry, holds_id, space_without}
-use Rattle.tq_model.specs.Moves.{IndexedQueue, IndexedSpace, the_queue, space_of, has_index, on_queue, entry_view, entry_inserted, entry_removed, moved_by, purged_of}
+use Rattle.tq_model.specs.Space.{Space, Queue, Entry, change_first, is_named, queue_named, is_free, is_past, is_expired, purged, purged_queue, with_entry, without, without_entry, holds_id, space_without}
+use Rattle.tq_model.specs.Moves.{IndexedQueue, IndexedSpace, the_queue, space_of, has_index, on_queue, entry_removed, moved_by, purged_of}
 use Rattle.tq_model.specs.Room.{is_lacking, first_lacking, message_rooms, messages_held, pages_held, pages_at}
 use Rattle.tq_model.specs.EnqueueStep.{CallOutcome, quality, next_id, entry_to_come, enqueue_refusal, enqueue_refusal_at, enqueue_step, enqueued, with_message, unless_refused}
 use Rattle.tq_model.specs.DequeueStep.{found_in, delivered, dequeue_answer, taken_from, dequeue_step, dequeue_refusal, refusal_at}
 use Rattle.tq_space.specs.declared.plans.Plan.{Plan}
-use Rattle.tq_space.specs.Plain.{HasNoExpirations, IsPlainEntry, CanInsert, CanMoveBy}
-use Rattle.tq_space.specs.Planned.{IsPlanOf}
+use Rattle.tq_space.specs.declared.plans.Refusal.TheVariants.{Refused}
+use Rattle.tq_space.specs.Plain.{IsPlainEnqueue, HasNoExpirations, CanInsert, CanMoveBy}
+use Rattle.tq_space.specs.Planned.{MeetsStep, IsInsertOf}
+use Rattle.tq_space.specs.NewEntry.{entry_of}
 use Rattle.tq_space.specs.Reads.{indexed_named, HasDistinctIndices}
 use Rattle.tq_space.specs.Reading.{answer_in}
 use Rattle.tq_space.proofs.Keys.{hit}
@@ -122,73 +123,85 @@ no_lack a b =
           ] refl
     ] refl
 
+-- ---- refusals
+
+-- one that leaves the space as it is
+refusal_meets : (held : IndexedSpace) (outcome : CallOutcome) (refusal : Option CallAnswer) (answer : CallAnswer) (purge : List MsgId) → purge ≡ []
+    → refusal ≡ Some answer → outcome ≡ record { space = space_of held; answer = answer } → MeetsStep (Err (Refused answer purge)) outcome refusal held
+refusal_meets held outcome refusal answer purge nothing refused step = (
+  refused,
+  sym (ap (λ (o : CallOutcome). o.answer) step),
+  ap (λ (p : List MsgId). space_of (purged_of p held)) nothing ∙ sym (ap (λ (o : CallOutcome). o.space) step),
+  nothing,
+)
+
+pub not_both : {X : Type 0} {o : Option X} {x : X} → o ≡ Some x → o ≡ None → ⊥
+not_both some none = cc
+
 -- ---- the enqueue step
 
-module _ (held : IndexedSpace) (lasting : HasNoExpirations held.queues) (call : EnqueueCall) (clock : ℕ) where
-  refusal_found : (o : Option IndexedQueue) → find (indexed_named call.queue) held.queues ≡ o
-      → enqueue_refusal (space_of held) call clock ≡ enqueue_refusal_at (space_of held) (space_of held) call (option_map the_queue o)
+module _ (held : IndexedSpace) (lasting : HasNoExpirations held.queues) (ask : EnqueueAsk) where
+  refusal_found : (o : Option IndexedQueue) → find (indexed_named ask.call.queue) held.queues ≡ o
+      → enqueue_refusal (space_of held) ask ≡ enqueue_refusal_at (space_of held) (space_of held) ask.call (option_map the_queue o)
   refusal_found o found =
-      ap (λ (s : Space). enqueue_refusal_at (space_of held) s call (queue_named call.queue s.queues)) (purged_same clock held lasting)
-      ∙ ap (enqueue_refusal_at (space_of held) (space_of held) call) (find-map the_queue (is_named call.queue) held.queues ∙ ap (option_map the_queue) found)
+      ap (λ (s : Space). enqueue_refusal_at (space_of held) s ask.call (queue_named ask.call.queue s.queues)) (purged_same ask.clock held lasting)
+      ∙ ap (enqueue_refusal_at (space_of held) (space_of held) ask.call) (find-map the_queue (is_named ask.call.queue) held.queues ∙ ap (option_map the_queue) found)
 
-  pub enqueue_refused : (next : Arrival) (answer : CallAnswer) (purge : List MsgId) → purge ≡ [] → enqueue_refusal (space_of held) call clock ≡ Some answer
-      → (enqueue_refusal (space_of held) call clock ≡ Some answer) × (answer ≡ (enqueue_step (space_of held) call clock next).answer)
-      × (space_of (purged_of purge held) ≡ (enqueue_step (space_of held) call clock next).space) × (purge ≡ [])
-  enqueue_refused next answer purge nothing refused =
-      let s = purged clock (space_of held) in
-      let step : enqueue_step (space_of held) call clock next ≡ record { space = s; answer = answer } = ap (λ (r : Option CallAnswer). unless_refused r s (enqueued s call next)) refused in (
-        refused,
-        sym (ap (λ (o : CallOutcome). o.answer) step),
-        ap (λ (p : List MsgId). space_of (purged_of p held)) nothing ∙ sym (ap (λ (o : CallOutcome). o.space) step ∙ purged_same clock held lasting),
-        nothing,
+  step_by : (r : Option CallAnswer) → enqueue_refusal (space_of held) ask ≡ r
+      → enqueue_step (space_of held) ask ≡ unless_refused r (space_of held) (enqueued (space_of held) ask.call ask.next)
+  step_by r refused = λ i. let s = purged_same ask.clock held lasting i in unless_refused (refused i) s (enqueued s ask.call ask.next)
+
+  refused_by : (answer : CallAnswer) (purge : List MsgId) → purge ≡ [] → enqueue_refusal (space_of held) ask ≡ Some answer
+      → MeetsStep (Err (Refused answer purge)) (enqueue_step (space_of held) ask) (enqueue_refusal (space_of held) ask) held
+  refused_by answer purge nothing refused = refusal_meets held _ _ answer purge nothing refused (step_by (Some answer) refused)
+
+  pub no_queue : find (indexed_named ask.call.queue) held.queues ≡ None → (purge : List MsgId) → purge ≡ []
+      → MeetsStep (Err (Refused BadQueue purge)) (enqueue_step (space_of held) ask) (enqueue_refusal (space_of held) ask) held
+  no_queue found purge nothing = refused_by BadQueue purge nothing (refusal_found None found)
+
+  module _ (q : IndexedQueue) (found : find (indexed_named ask.call.queue) held.queues ≡ Some q) (lack : Option Lack)
+      (first : first_lacking (message_rooms (space_of held) (space_of held) (pages_at (quality ask.call.qos q.queue.qos) (length ask.call.body))) ≡ lack) where
+    refused_room : enqueue_refusal (space_of held) ask ≡ option_map NoSpace lack
+    refused_room = refusal_found (Some q) found ∙ ap (option_map NoSpace) first
+
+    pub no_room : (x : Lack) → lack ≡ Some x → (purge : List MsgId) → purge ≡ []
+        → MeetsStep (Err (Refused (NoSpace x) purge)) (enqueue_step (space_of held) ask) (enqueue_refusal (space_of held) ask) held
+    no_room x is purge nothing = refused_by (NoSpace x) purge nothing (refused_room ∙ ap (option_map NoSpace) is)
+
+  pub enqueue_planned : (plan : Plan) (insert : IsInsertOf ask held plan) (lack : Option Lack)
+      → first_lacking (message_rooms (space_of held) (space_of held) (pages_at (quality ask.call.qos insert.queue.queue.qos) (length ask.call.body))) ≡ lack
+      → lack ≡ None → HasDistinctIndices held.queues → IsPlainEnqueue ask
+      → plan.answer ≡ Some (Enqueued (if ask.call.want_id then Some (next_id (space_of held) ask.next) else None))
+      → MeetsStep (Ok plan) (enqueue_step (space_of held) ask) (enqueue_refusal (space_of held) ask) held
+  enqueue_planned plan insert lack first fits distinct plain is_answer =
+      let call = ask.call in
+      let q = insert.queue in
+      let S = space_of held in
+      let e = entry_of ask q.index (quality call.qos q.queue.qos) (next_id S ask.next) in
+      let item = entry_to_come S q.queue call ask.next in
+      let none : enqueue_refusal S ask ≡ None = refused_room q insert.found lack first ∙ ap (option_map NoSpace) fits in
+      let step = step_by None none in
+      let after = ap (with_message S call ask.next) (find-map the_queue (is_named call.queue) held.queues ∙ ap (option_map the_queue) insert.found) in
+      let inserted = change_named call.queue (with_entry item) q held.queues distinct insert.found in
+      let bounds = no_lack (record { resource = _; need = 1; held = messages_held S; limit = held.limits.messages })
+      (record { resource = _; need = pages_at (quality call.qos q.queue.qos) (length call.body); held = pages_held S; limit = held.limits.pages }) (first ∙ fits) in
+      let can : CanInsert e held = record {
+        plain = record { mark = refl; expiration = plain.expiration };
+        there = found_any call.queue q held.queues insert.found;
+        messages = omega (arith, bounds.0);
+        pages = omega (arith, bounds.1);
+      } in (
+        record {
+          answer = is_answer ∙ ap (λ (o : CallOutcome). Some o.answer) (sym step);
+          space =
+              (λ i. space_of (moved_by (insert.moves i) (purged_of (insert.purge i) held)))
+              ∙ (λ i. record S { queues = inserted i })
+              ∙ sym after ∙ ap (λ (o : CallOutcome). o.space) (sym step);
+          can = subst (λ (moves : List SpaceMove). CanMoveBy moves (purged_of plan.purge held)) (sym insert.moves)
+              (subst (λ (purge : List MsgId). CanMoveBy (Insert e ∷ []) (purged_of purge held)) (sym insert.purge) (can, tt));
+        },
+        none,
       )
-
-  pub refused_badly : find (indexed_named call.queue) held.queues ≡ None → enqueue_refusal (space_of held) call clock ≡ Some BadQueue
-  refused_badly found = refusal_found None found
-
-  module _ (q : IndexedQueue) (found : find (indexed_named call.queue) held.queues ≡ Some q) where
-    need : ℕ
-    need = pages_at (quality call.qos q.queue.qos) (length call.body)
-
-    pub refused_room : (lack : Option Lack)
-        → first_lacking (message_rooms (space_of held) (space_of held) (pages_at (quality call.qos q.queue.qos) (length call.body))) ≡ lack
-        → enqueue_refusal (space_of held) call clock ≡ option_map NoSpace lack
-    refused_room lack is_lack = refusal_found (Some q) found ∙ ap (option_map NoSpace) is_lack
-
-    pub enqueue_planned : (next : Arrival) (distinct : HasDistinctIndices held.queues)
-        → first_lacking (message_rooms (space_of held) (space_of held) (pages_at (quality call.qos q.queue.qos) (length call.body))) ≡ None
-        → (e : HeldEntry) → entry_view e ≡ entry_to_come (space_of held) q.queue call next → e.queue ≡ q.index → IsPlainEntry e
-        → pages_at e.message.qos (length e.message.body) ≡ pages_at (quality call.qos q.queue.qos) (length call.body)
-        → (plan : Plan) → plan.purge ≡ [] → plan.moves ≡ Insert e ∷ []
-        → plan.answer ≡ Some (Enqueued (if call.want_id then Some (next_id (space_of held) next) else None))
-        → IsPlanOf (enqueue_step (space_of held) call clock next) held plan × (enqueue_refusal (space_of held) call clock ≡ None)
-    enqueue_planned next distinct room e is_item is_index plain is_pages plan no_purge is_moves is_answer =
-        let S = space_of held in
-        let s = purged clock S in
-        let none : enqueue_refusal S call clock ≡ None = refused_room None room in
-        let step : enqueue_step S call clock next ≡ enqueued S call next =
-        ap (λ (r : Option CallAnswer). unless_refused r s (enqueued s call next)) none ∙ ap (λ (x : Space). enqueued x call next) (purged_same clock held lasting) in
-        let named : queue_named call.queue S.queues ≡ Some q.queue = find-map the_queue (is_named call.queue) held.queues ∙ ap (option_map the_queue) found in
-        let after : with_message S call next (queue_named call.queue S.queues) ≡ record S { queues = with_entry_in call.queue (entry_to_come S q.queue call next) S.queues } =
-        ap (with_message S call next) named in
-        let inserted : map the_queue (entry_inserted e.queue (entry_view e) held.queues) ≡ with_entry_in call.queue (entry_to_come S q.queue call next) S.queues =
-        (λ i. map the_queue (entry_inserted (is_index i) (is_item i) held.queues))
-        ∙ change_named call.queue (with_entry (entry_to_come S q.queue call next)) q held.queues distinct found in
-        let queue_there : list_any (has_index e.queue) held.queues ≡ true = ap (λ (n : ℕ). list_any (has_index n) held.queues) is_index ∙ found_any call.queue q held.queues found in
-        let bounds = no_lack (record { resource = _; need = 1; held = messages_held S; limit = held.limits.messages }) (record { resource = _; need = pages_at (quality call.qos q.queue.qos) (length call.body); held = pages_held S; limit = held.limits.pages }) room in
-        let P : List MsgId → List SpaceMove → Type 0 = λ (purge : List MsgId) (moves : List SpaceMove). CanMoveBy moves (purged_of purge held) in
-        let first : CanInsert e held = record { plain = plain; there = queue_there; messages = omega (arith, bounds.0); pages = omega (arith, bounds.1, is_pages) } in
-        let can : P [] (Insert e ∷ []) = (first, tt) in (
-          record {
-            answer = is_answer ∙ ap (λ (o : CallOutcome). Some o.answer) (sym step);
-            space =
-                (λ i. space_of (moved_by (is_moves i) (purged_of (no_purge i) held)))
-                ∙ (λ i. record S { queues = inserted i })
-                ∙ sym after ∙ ap (λ (o : CallOutcome). o.space) (sym step);
-            can = subst (λ (moves : List SpaceMove). P plan.purge moves) (sym is_moves) (subst (λ (purge : List MsgId). P purge (Insert e ∷ [])) (sym no_purge) can);
-          },
-          none,
-        )
 
 -- ---- the dequeue step
 
@@ -205,61 +218,62 @@ found_same : (call : DequeueCall) (clock : ℕ) (o : Option IndexedQueue) → fo
 found_same call clock None = refl
 found_same call clock (Some q) = refl
 
-module _ (held : IndexedSpace) (lasting : HasNoExpirations held.queues) (call : DequeueCall) (clock : ℕ) (o : Option IndexedQueue)
-    (found : find (indexed_named call.queue) held.queues ≡ o) (r : Option Entry) (answering : answer_in call clock o ≡ r) where
-  named : queue_named call.queue (space_of held).queues ≡ option_map the_queue o
-  named = find-map the_queue (is_named call.queue) held.queues ∙ ap (option_map the_queue) found
+module _ (held : IndexedSpace) (lasting : HasNoExpirations held.queues) (ask : DequeueAsk) (o : Option IndexedQueue)
+    (found : find (indexed_named ask.call.queue) held.queues ≡ o) (r : Option Entry) (answering : answer_in ask.call ask.clock (find (indexed_named ask.call.queue) held.queues) ≡ r) where
+  named : queue_named ask.call.queue (space_of held).queues ≡ option_map the_queue o
+  named = find-map the_queue (is_named ask.call.queue) held.queues ∙ ap (option_map the_queue) found
 
-  in_queue : found_in call clock (queue_named call.queue (space_of held).queues) ≡ r
-  in_queue = ap (found_in call clock) named ∙ found_same call clock o ∙ answering
+  in_queue : found_in ask.call ask.clock (queue_named ask.call.queue (space_of held).queues) ≡ r
+  in_queue = ap (found_in ask.call ask.clock) named ∙ found_same ask.call ask.clock o ∙ ap (answer_in ask.call ask.clock) (sym found) ∙ answering
 
-  pub dequeue_is : dequeue_step (space_of held) call clock ≡ record { space = taken_from (space_of held) call r; answer = dequeue_answer call (option_map the_queue o) r }
-  dequeue_is =
+  step_is : dequeue_step (space_of held) ask ≡ record { space = taken_from (space_of held) ask.call r; answer = dequeue_answer ask.call (option_map the_queue o) r }
+  step_is =
       (λ i.
-      let s = purged_same clock held lasting i in
-      let queue = queue_named call.queue s.queues in
-      record { space = taken_from s call (found_in call clock queue); answer = dequeue_answer call queue (found_in call clock queue) })
-      ∙ λ i. record { space = taken_from (space_of held) call (in_queue i); answer = dequeue_answer call (named i) (in_queue i) }
+      let s = purged_same ask.clock held lasting i in
+      let queue = queue_named ask.call.queue s.queues in
+      record { space = taken_from s ask.call (found_in ask.call ask.clock queue); answer = dequeue_answer ask.call queue (found_in ask.call ask.clock queue) })
+      ∙ λ i. record { space = taken_from (space_of held) ask.call (in_queue i); answer = dequeue_answer ask.call (named i) (in_queue i) }
 
-  pub dequeue_refusal_is : dequeue_refusal (space_of held) call clock ≡ refusal_at (option_map the_queue o) r
-  dequeue_refusal_is =
+  refusal_is : dequeue_refusal (space_of held) ask ≡ refusal_at (option_map the_queue o) r
+  refusal_is =
       (λ i.
-      let s = purged_same clock held lasting i in
-      let queue = queue_named call.queue s.queues in
-      refusal_at queue (found_in call clock queue))
+      let s = purged_same ask.clock held lasting i in
+      let queue = queue_named ask.call.queue s.queues in
+      refusal_at queue (found_in ask.call ask.clock queue))
       ∙ λ i. refusal_at (named i) (in_queue i)
 
-pub dequeue_refused : (held : IndexedSpace) (call : DequeueCall) (clock : ℕ) (answer : CallAnswer) (purge : List MsgId) → purge ≡ []
-    → dequeue_refusal (space_of held) call clock ≡ Some answer → dequeue_step (space_of held) call clock ≡ record { space = space_of held; answer = answer }
-    → (dequeue_refusal (space_of held) call clock ≡ Some answer) × (answer ≡ (dequeue_step (space_of held) call clock).answer)
-    × (space_of (purged_of purge held) ≡ (dequeue_step (space_of held) call clock).space) × (purge ≡ [])
-dequeue_refused held call clock answer purge nothing refused step = (
-  refused,
-  sym (ap (λ (o : CallOutcome). o.answer) step),
-  ap (λ (p : List MsgId). space_of (purged_of p held)) nothing ∙ sym (ap (λ (o : CallOutcome). o.space) step),
-  nothing,
-)
+pub nothing_named : (held : IndexedSpace) (lasting : HasNoExpirations held.queues) (ask : DequeueAsk) → find (indexed_named ask.call.queue) held.queues ≡ None → (purge : List MsgId) → purge ≡ []
+    → MeetsStep (Err (Refused BadQueue purge)) (dequeue_step (space_of held) ask) (dequeue_refusal (space_of held) ask) held
+nothing_named held lasting ask found purge nothing =
+    let none : answer_in ask.call ask.clock (find (indexed_named ask.call.queue) held.queues) ≡ None = ap (answer_in ask.call ask.clock) found in
+    refusal_meets held _ _ BadQueue purge nothing (refusal_is held lasting ask None found None none) (step_is held lasting ask None found None none)
 
-pub dequeue_planned : (held : IndexedSpace) (call : DequeueCall) (clock : ℕ) (item : Entry) (plan : Plan)
-    → dequeue_refusal (space_of held) call clock ≡ None
-    → dequeue_step (space_of held) call clock ≡ record { space = taken_from (space_of held) call (Some item); answer = delivered call item }
-    → plan.purge ≡ [] → plan.moves ≡ option_to_list (if call.peek then None else Some (Remove item.message.id)) → plan.answer ≡ Some (delivered call item)
-    → IsPlanOf (dequeue_step (space_of held) call clock) held plan × (dequeue_refusal (space_of held) call clock ≡ None)
-dequeue_planned held call clock item plan none step no_purge is_moves is_answer =
+pub nothing_answers : (held : IndexedSpace) (lasting : HasNoExpirations held.queues) (ask : DequeueAsk) (q : IndexedQueue) → find (indexed_named ask.call.queue) held.queues ≡ Some q
+    → answer_in ask.call ask.clock (find (indexed_named ask.call.queue) held.queues) ≡ None → (purge : List MsgId) → purge ≡ []
+    → MeetsStep (Err (Refused NoMessage purge)) (dequeue_step (space_of held) ask) (dequeue_refusal (space_of held) ask) held
+nothing_answers held lasting ask q found none purge nothing =
+    refusal_meets held _ _ NoMessage purge nothing (refusal_is held lasting ask (Some q) found None none) (step_is held lasting ask (Some q) found None none)
+
+pub dequeue_planned : (held : IndexedSpace) (lasting : HasNoExpirations held.queues) (ask : DequeueAsk) (q : IndexedQueue) → find (indexed_named ask.call.queue) held.queues ≡ Some q
+    → (item : Entry) → answer_in ask.call ask.clock (find (indexed_named ask.call.queue) held.queues) ≡ Some item → (plan : Plan)
+    → plan.purge ≡ [] → plan.moves ≡ option_to_list (if ask.call.peek then None else Some (Remove item.message.id)) → plan.answer ≡ Some (delivered ask.call item)
+    → MeetsStep (Ok plan) (dequeue_step (space_of held) ask) (dequeue_refusal (space_of held) ask) held
+dequeue_planned held lasting ask q found item answering plan no_purge is_moves is_answer =
     let S = space_of held in
+    let step = step_is held lasting ask (Some q) found (Some item) answering in
     let moves_at = λ (b : Bool). option_to_list (if b then None else Some (Remove item.message.id)) in
-    let after : space_of (moved_by (moves_at call.peek) held) ≡ taken_from S call (Some item) =
-    elim call.peek as (λ b. space_of (moved_by (moves_at b) held) ≡ (if b then S else space_without item.message.id S)) [
+    let after : space_of (moved_by (moves_at ask.call.peek) held) ≡ taken_from S ask.call (Some item) =
+    elim ask.call.peek as (λ b. space_of (moved_by (moves_at b) held) ≡ (if b then S else space_without item.message.id S)) [
       | true ↦ refl
       | false ↦ λ i. record S { queues = without_seen item.message.id held.queues i }
     ] in
-    let can : CanMoveBy (moves_at call.peek) held =
-    elim call.peek as (λ b. CanMoveBy (moves_at b) held) [ true ↦ tt | false ↦ (tt, tt) ] in (
+    let can : CanMoveBy (moves_at ask.call.peek) held =
+    elim ask.call.peek as (λ b. CanMoveBy (moves_at b) held) [ true ↦ tt | false ↦ (tt, tt) ] in (
       record {
         answer = is_answer ∙ ap (λ (o : CallOutcome). Some o.answer) (sym step);
         space = (λ i. space_of (moved_by (is_moves i) (purged_of (no_purge i) held))) ∙ after ∙ ap (λ (o : CallOutcome). o.space) (sym step);
         can = subst (λ (moves : List SpaceMove). CanMoveBy moves (purged_of plan.purge held)) (sym is_moves)
-            (subst (λ (purge : List MsgId). CanMoveBy (moves_at call.peek) (purged_of purge held)) (sym no_purge) can);
+            (subst (λ (purge : List MsgId). CanMoveBy (moves_at ask.call.peek) (purged_of purge held)) (sym no_purge) can);
       },
-      none,
+      refusal_is held lasting ask (Some q) found (Some item) answering,
     )

@@ -8,7 +8,7 @@ use Rattle.tq_types.specs.declared.messages.Qos.TheVariants as qualities
 use Rattle.tq_types.specs.declared.messages.AskedQos.TheVariants as asked
 use Rattle.tq_types.specs.declared.messages.Entry.{Entry as HeldEntry}
 use Rattle.tq_model.specs.Space.{Entry, Free, Here}
-use Rattle.tq_model.specs.Moves.{entry_view}
+use Rattle.tq_model.specs.Moves.{entry_view, session_owners}
 use Rattle.tq_space.specs.Plain.{IsPlainEntry}
 
 -- what is read at a key without an entry
@@ -38,7 +38,7 @@ no_entry =
 
 abbrev pub slot_entry : Option HeldEntry → Entry
 slot_entry None = no_entry
-slot_entry (Some e) = entry_view e
+slot_entry (Some e) = entry_view session_owners e
 
 abbrev pub slot_at : List (Option HeldEntry) → ℕ → Option HeldEntry
 slot_at slots key = slice_index_or slots key None
@@ -49,7 +49,7 @@ entry_at slots key = slot_entry (slot_at slots key)
 -- a test of the entry at a key; it fails where there is none
 abbrev pub slot_test : (Entry → Bool) → Option HeldEntry → Bool
 slot_test test None = false
-slot_test test (Some e) = test (entry_view e)
+slot_test test (Some e) = test (entry_view session_owners e)
 
 abbrev pub slot_count : Option HeldEntry → ℕ
 slot_count None = 0

@@ -1,5 +1,5 @@
 -- A space in memory: its counts are those of its entries.
-use Rattle.std.specs.Prelude.{◌≡◌, ◌≤◌}
+use Rattle.std.specs.Prelude.{◌≡◌, ◌≤◌, []}
 use Rattle.tq_model.specs.Moves.{IndexedSpace, space_of}
 use Rattle.tq_model.specs.Room.{messages_held, pages_held}
 use Rattle.tq_space.specs.declared.space.Space.TheInside.{Inside}
@@ -19,6 +19,7 @@ held_of s =
       };
       error = s.error;
       queues = s.shelf.queues;
+      owners = [];
     }
 
 abbrev pub space_view : Inside → SpaceState

@@ -2,7 +2,7 @@ ghost use Rattle.std.specs.Prelude.{true, false, ◌≡◌, ℕ, ◌+◌, ◌-�
 ghost use Rattle.std.specs.List.{position, position_or_len, find, list_any, insert, All};
 ghost use Rattle.std.specs.Str.{bytes_eq};
 ghost use Rattle.tq_model.specs.Space.{is_eligible, is_free, is_past, same_id, has_id, is_named, stands_before, name_before, change_first};
-ghost use Rattle.tq_model.specs.Moves.{mark_view, queue_of, queue_added, queue_dropped, on_queue, entry_view, entry_inserted, entry_removed, entry_replaced, entry_with_id, after_change, has_index, indexed_holds};
+ghost use Rattle.tq_model.specs.Moves.{mark_view, queue_of, queue_added, queue_dropped, on_queue, entry_view, entry_inserted, entry_removed, entry_replaced, entry_with_id, after_change, has_index, indexed_holds, session_owners};
 ghost use Rattle.tq_model.specs.DequeueStep.{can_answer, is_candidate, has_asked_id, has_asked_corr};
 ghost use Rattle.tq_space.specs.Reads.{indexed_named, HasDistinctIndices};
 ghost use Rattle.tq_space.specs.Plain.{IsPlainEntry, IsPlainChange, HasNoExpirations, HasNoEntries};
@@ -255,7 +255,7 @@ fn take_spare(spare: &mut Vec<Vec<usize>>) -> Vec<usize>
 /// The entry with the values of the change.
 fn changed_entry(mut entry: Entry, change: &Change) -> Entry
     requires { IsPlainChange change.now }
-    ensures item { entry_view result ≡ after_change change.now (entry_view entry) }
+    ensures item { entry_view session_owners result ≡ after_change session_owners change.now (entry_view session_owners entry) }
     ensures queue { result.queue ≡ change.now.queue }
     ensures plain { IsPlainEntry result }
 {
@@ -280,7 +280,7 @@ fn slot_answers(slot: Option<&Entry>, call: &DequeueCall, clock: u64) -> bool
 }
 
 fn fits(entry: &Entry, call: &DequeueCall) -> bool
-    ensures { result ≡ is_candidate call.now (entry_view entry.now) }
+    ensures { result ≡ is_candidate call.now (entry_view session_owners entry.now) }
 {
     fits_id(call.id, &entry.message.id) && fits_corr(call.corr, entry.message.corr)
 }
@@ -306,13 +306,13 @@ fn fits_corr(asked: Option<CorrId>, corr: Option<CorrId>) -> bool
 
 /// Whether an entry is free, available and not expired.
 fn eligible(entry: &Entry, clock: u64) -> bool
-    ensures { result ≡ is_eligible clock (entry_view entry.now) }
+    ensures { result ≡ is_eligible clock (entry_view session_owners entry.now) }
 {
     free(entry.mark) && entry.message.available <= clock && !past(clock, entry.message.expiration)
 }
 
 fn free(mark: Mark) -> bool
-    ensures { result ≡ is_free (mark_view mark) }
+    ensures { result ≡ is_free (mark_view session_owners mark) }
 {
     match mark {
         Mark::Free => true,
@@ -371,7 +371,7 @@ impl Shelf {
         requires room { 1 ≤ self.old.ready }
         requires there { list_any (has_index entry.queue) self.old.queues ≡ true }
         requires plain { IsPlainEntry entry }
-        ensures queues { self.new.queues ≡ entry_inserted entry.queue (entry_view entry) self.old.queues }
+        ensures queues { self.new.queues ≡ entry_inserted entry.queue (entry_view session_owners entry) self.old.queues }
         ensures ready { self.new.ready + 1 ≡ self.old.ready }
     {
         if let Some(at) = place_indexed(&self.queues, entry.queue) {
@@ -389,7 +389,7 @@ impl Shelf {
     pub(crate) fn remove(&mut self, id: &MsgId) -> Option<Entry>
         ensures queues { self.new.queues ≡ entry_removed id.now self.old.queues }
         ensures ready { self.new.ready ≡ self.old.ready }
-        ensures entry { option_map entry_view result ≡ entry_with_id id.now self.old.queues }
+        ensures entry { option_map (entry_view session_owners) result ≡ entry_with_id id.now self.old.queues }
     {
         let Some(at) = place_holding(&self.queues, &self.entries, id) else {
             return None;
@@ -408,7 +408,7 @@ impl Shelf {
         requires room { 1 ≤ self.old.ready }
         requires there { list_any (has_index change.now.queue) self.old.queues ≡ true }
         requires plain { IsPlainChange change.now }
-        ensures queues { self.new.queues ≡ entry_replaced change.now (entry_with_id change.now.id self.old.queues) self.old.queues }
+        ensures queues { self.new.queues ≡ entry_replaced session_owners change.now (entry_with_id change.now.id self.old.queues) self.old.queues }
         ensures ready { self.old.ready ≤ self.new.ready + 1 }
     {
         if let Some(entry) = self.remove(&change.id) {
@@ -495,7 +495,8 @@ impl Shelf {
 
     /// The first entry that answers a dequeue of its queue, if there is one.
     pub(crate) fn answering(&self, call: &DequeueCall, clock: u64) -> Option<&Entry>
-        ensures entry { option_map entry_view (option_copied result) ≡ answer_in call.now clock (find (indexed_named call.now.queue) self.now.queues) }
+        ensures entry { option_map (entry_view session_owners) (option_copied result)
+            ≡ answer_in call.now clock (find (indexed_named call.now.queue) self.now.queues) }
     {
         let Some(at) = place_named(&self.queues, &call.queue) else {
             return None;
@@ -510,7 +511,7 @@ impl Shelf {
 
     /// The entry of that identifier.
     pub(crate) fn with_id(&self, id: &MsgId) -> Option<&Entry>
-        ensures entry { option_map entry_view (option_copied result) ≡ entry_with_id id.now self.now.queues }
+        ensures entry { option_map (entry_view session_owners) (option_copied result) ≡ entry_with_id id.now self.now.queues }
     {
         let Some(at) = place_holding(&self.queues, &self.entries, id) else {
             return None;

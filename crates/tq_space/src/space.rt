@@ -1,22 +1,23 @@
 ghost use Rattle.std.specs.Prelude.{◌≡◌, ℕ, true, false, ◌&&◌, nat_lt, nat_le, ◌+◌, ◌-◌, ◌*◌, option_copied, option_to_list, if◌then◌else◌, ◌≤◌, [], ◌∷◌, length, IfOk, OnOk, OnErr, MatchOption, Some, None, option_map};
 ghost use Rattle.tq_model.specs.Space.{body_length};
-ghost use Rattle.tq_model.specs.Moves.{entry_view, space_of, purged_of, moved, moved_by, has_index, entry_with_id};
+ghost use Rattle.tq_model.specs.Moves.{entry_view, space_of, purged_of, moved, moved_by, has_index, entry_with_id, session_owners};
 ghost use Rattle.std.specs.List.{find, list_any};
-ghost use Rattle.tq_space.specs.Reads.{indexed_named};
+ghost use Rattle.tq_space.specs.Reads.{indexed_named, HasDistinctIndices};
+ghost use Rattle.tq_space.specs.Reading.{named_of, answer_in};
 ghost use Rattle.tq_model.specs.Room.{pages_for, pages_at, messages_held, pages_held, message_rooms, first_lacking};
 ghost use Rattle.tq_model.specs.EnqueueStep.{quality, next_id, enqueue_step, enqueue_refusal};
 ghost use Rattle.tq_model.specs.DequeueStep.{dequeue_step, dequeue_refusal, delivered, content_bytes};
 ghost use Rattle.tq_model.specs.SpaceForm.{holds_arrival, holds_name, empty_space, added_length, gone_length, made_length};
 ghost use Rattle.tq_model.specs.Plain.{KeepsAllAtCrash, IsOwn};
 ghost use Rattle.tq_types.specs.declared.identifiers.Arrival.{Arrival};
-ghost use Rattle.tq_space.specs.Plain.{IsPlainEnqueue, IsPlainDequeue, IsBareEnqueue, CanInsert, CanReplace, CanDrop, CanMove, CanMoveBy};
+ghost use Rattle.tq_space.specs.Plain.{IsPlainEnqueue, IsPlainDequeue, IsBareEnqueue, HasNoExpirations, CanInsert, CanReplace, CanDrop, CanMove, CanMoveBy};
 ghost use Rattle.tq_space.specs.Applied.{plan_applied};
 ghost use Rattle.tq_space.specs.Planned.{MeetsStep, IsRefused, IsInsertOf, IsRemovalOf, MeetsCreation};
 ghost use Rattle.tq_space.specs.Loggable.{IsDurable};
 ghost use Rattle.tq_space.specs.NewEntry.{entry_of, rooms};
 
 use crate::plans::{Moves, Plan, Purge, QueueRefusal, Refusal};
-use crate::shelf::Shelf;
+use crate::shelf::{Named, Shelf};
 use std::alloc::{AllocError, Global};
 use std::marker::Model;
 use tq_model::{
@@ -175,7 +176,7 @@ fn removal(peek: bool, id: MsgId) -> Option<SpaceMove>
 
 /// An entry as it is handed out.
 fn delivery_of(entry: &Entry, call: &DequeueCall) -> Result<Delivery, AllocError>
-    ensures { IfOk result (λ d. CallAnswer.Dequeued d ≡ delivered call.now (entry_view entry.now)) }
+    ensures { IfOk result (λ d. CallAnswer.Dequeued d ≡ delivered call.now (entry_view session_owners entry.now)) }
 {
     let id = if call.asked.wants_id() {
         Some(entry.message.id)
@@ -247,6 +248,23 @@ impl Space {
         }
     }
 
+    /// The queue of that name, if there is one.
+    fn named(&self, name: &Name) -> Option<Named>
+        ensures named { result ≡ option_map named_of (find (indexed_named name.now) self.now.held.queues) }
+        ensures indices { HasDistinctIndices self.now.held.queues }
+        ensures lasting { HasNoExpirations self.now.held.queues }
+    {
+        self.shelf.named(name)
+    }
+
+    /// The first entry that answers a dequeue of its queue, if there is one.
+    fn answering(&self, call: &DequeueCall, clock: u64) -> Option<&Entry>
+        ensures { option_map (entry_view session_owners) (option_copied result)
+            ≡ answer_in call.now clock (find (indexed_named call.now.queue) self.now.held.queues) }
+    {
+        self.shelf.answering(call, clock)
+    }
+
     /// What an enqueue makes of the space: a plan exactly where the machine's step refuses nothing,
     /// else that refusal. Nothing is changed. The body is moved into the plan.
     ///
@@ -255,16 +273,15 @@ impl Space {
     pub fn plan_enqueue(&self, alloc: Global, ask: EnqueueAsk) -> Result<Plan, Refusal>
         requires plain { IsPlainEnqueue ask }
         requires checked { length ask.call.body ≤ 65536 }
-        ensures step { MeetsStep result (enqueue_step (space_of self.now.held) ask.call ask.clock ask.next)
-            (enqueue_refusal (space_of self.now.held) ask.call ask.clock) self.now.held }
+        ensures step { MeetsStep result (enqueue_step (space_of self.now.held) ask) (enqueue_refusal (space_of self.now.held) ask) self.now.held }
         // the condition under which no refusal comes
-        ensures granted { enqueue_refusal (space_of self.now.held) ask.call ask.clock ≡ None → IsRefused result → ⊥ }
+        ensures granted { enqueue_refusal (space_of self.now.held) ask ≡ None → IsRefused result → ⊥ }
         ensures moves { IfOk result (λ plan. IsInsertOf ask self.now.held plan) }
         // what its log takes
         ensures durable { IsBareEnqueue ask.call → KeepsAllAtCrash self.now.held
             → IfOk result (IsDurable ask.next (added_length ask.call.body) 1 self.now.held) }
     {
-        let Some(queue) = self.shelf.named(&ask.call.queue) else {
+        let Some(queue) = self.named(&ask.call.queue) else {
             return Err(Refusal::Refused(CallAnswer::BadQueue, Purge::new(alloc)));
         };
         let qos = chosen(ask.call.qos, queue.qos);
@@ -287,18 +304,17 @@ impl Space {
     /// `BadQueue` where there is no such queue, `NoMessage` where no entry answers the call.
     pub fn plan_dequeue(&self, alloc: Global, ask: &DequeueAsk) -> Result<Plan, Refusal>
         requires plain { IsPlainDequeue ask.now }
-        ensures step { MeetsStep result (dequeue_step (space_of self.now.held) ask.now.call ask.now.clock)
-            (dequeue_refusal (space_of self.now.held) ask.now.call ask.now.clock) self.now.held }
+        ensures step { MeetsStep result (dequeue_step (space_of self.now.held) ask.now) (dequeue_refusal (space_of self.now.held) ask.now) self.now.held }
         // the condition under which no refusal comes
-        ensures granted { dequeue_refusal (space_of self.now.held) ask.now.call ask.now.clock ≡ None → IsRefused result → ⊥ }
+        ensures granted { dequeue_refusal (space_of self.now.held) ask.now ≡ None → IsRefused result → ⊥ }
         ensures moves { IfOk result (λ plan. IsRemovalOf ask.now self.now.held plan) }
         // what its log takes
         ensures durable { ask.now.call.peek ≡ false → IsOwn self.now.held → (next : Arrival) → IfOk result (IsDurable next gone_length 0 self.now.held) }
     {
-        let Some(_queue) = self.shelf.named(&ask.call.queue) else {
+        let Some(_queue) = self.named(&ask.call.queue) else {
             return Err(Refusal::Refused(CallAnswer::BadQueue, Purge::new(alloc)));
         };
-        let Some(entry) = self.shelf.answering(&ask.call, ask.clock) else {
+        let Some(entry) = self.answering(&ask.call, ask.clock) else {
             return Err(Refusal::Refused(CallAnswer::NoMessage, Purge::new(alloc)));
         };
         let Ok(delivery) = delivery_of(entry, &ask.call) else {

@@ -11,9 +11,9 @@ use Rattle.tq_gate.specs.Reading.{Content, content}
 use Rattle.tq_gate.specs.Log.{IsOpen, IsLog, IsSameLog, free_in}
 use Rattle.tq_gate.specs.Layout.{log_length}
 use Rattle.tq_gate.specs.declared.layout.Layout.{Layout}
-use Rattle.tq_gate.proofs.Elsewhere.{content_elsewhere}
+use Rattle.tq_gate.proofs.OutsideLemmas.{content_elsewhere}
 use Rattle.tq_gate.proofs.Readings.{end_of-push}
-use Rattle.tq_gate.proofs.Stretches.{run_at-same}
+use Rattle.tq_gate.proofs.RangeLemmas.{run_at-same}
 use Rattle.tq_model.specs.declared.space.Shape.{Shape}
 use Rattle.tq_model.specs.declared.record.SpaceRecord.{SpaceRecord}
 use Rattle.tq_model.specs.Space.{overhead_pages}

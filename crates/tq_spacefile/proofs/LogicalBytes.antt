@@ -4,7 +4,7 @@ use Rattle.std.proofs.lemmas.List.{append-nil}
 use Rattle.tq_field.specs.GatedLog.{log_reading}
 use Rattle.tq_field.specs.Places.{run_at}
 use Rattle.tq_host.specs.Calls.{HasBytesAt}
-use Rattle.tq_gate.proofs.Stretches.{run_at-same, run_at-is}
+use Rattle.tq_gate.proofs.RangeLemmas.{run_at-same, run_at-is}
 use Rattle.tq_model.specs.Site.{clusters_for}
 use Rattle.tq_model.specs.SpaceForm.{log_bytes}
 use Rattle.tq_model.specs.Reading.{log_start, payloads_in}

@@ -9,7 +9,7 @@ use Rattle.tq_field.specs.Places.{run_at}
 use Rattle.tq_field.proofs.Runs.{length-run_at, get_or-run_at}
 use Rattle.tq_gate.specs.Layout.{address, base_length, first_area, layout_end, IsLaidOut}
 use Rattle.tq_gate.specs.Reading.{Content, content, base_in, log_in}
-use Rattle.tq_gate.proofs.Stretches.{is_bytes_from}
+use Rattle.tq_gate.proofs.RangeLemmas.{is_bytes_from}
 use Rattle.tq_model.specs.SpaceForm.{log_bytes}
 use Rattle.tq_model.specs.Reading.{log_start, payloads_in}
 use Rattle.tq_spacefile.specs.declared.place.SpacePlace.{SpacePlace}

@@ -9,7 +9,7 @@ use Rattle.tq_field.specs.Places.{run_at, number_at}
 use Rattle.tq_field.proofs.Numbers.{length-digits}
 use Rattle.tq_field.proofs.Runs.{get_or-run_at}
 use Rattle.tq_host.specs.Calls.{HasBytesAt}
-use Rattle.tq_gate.proofs.Stretches.{run_at-is}
+use Rattle.tq_gate.proofs.RangeLemmas.{run_at-is}
 use Rattle.tq_model.specs.declared.space.Shape.{Shape}
 use Rattle.tq_model.specs.Space.{overhead_pages}
 use Rattle.tq_model.specs.Names.{is_name}

@@ -4,7 +4,7 @@ use Rattle.std.specs.Prelude.{IfErr, IsErrAnd}
 use Rattle.tq_host.specs.View.{View}
 use Rattle.tq_host.specs.Within.{Within}
 use Rattle.tq_host.proofs.Within.{starts}
-use Rattle.tq_host.proofs.Resting.{rest_start}
+use Rattle.tq_host.proofs.QuietLemmas.{rest_start}
 use Rattle.tq_gate.specs.declared.layout.Layout.{Layout}
 use Rattle.tq_gate.specs.Layout.{log_length}
 use Rattle.tq_gate.specs.Log.{free_in, FitsIn, IsSameLog}

@@ -49,11 +49,11 @@ pub record IsSameFile (f f' : SpaceFile) : Type 0 where
   pub logged : logged_in f' ≡ logged_in f
   pub kept : (epoch : ℕ) (image : List ℕ) → IsFile f epoch image → IsFile f' epoch image
 
--- Why a plan is not done: where the log has no room for it, or for want of memory, the outside is untouched; else a device failed.
+-- Why a plan is not done: where the log has no room for it, or for want of memory, the outside is untouched; else there was room, and a device failed.
 abbrev pub IsCause : SpaceFile → Plan → Type 0 → ℕ → ℕ → CommitError → Type 0
 IsCause f plan untouched before now (LogFull room) =
     (log_bytes (place_in f).pages < logged_in f + (size_of plan + 6)) × (room ≡ room_for (place_in f).pages (logged_in f) (size_of plan)) × untouched
-IsCause f plan untouched before now Device = (before ≤ now) × Rose before now
+IsCause f plan untouched before now Device = (before ≤ now) × Rose before now × (logged_in f + (size_of plan + 6) ≤ log_bytes (place_in f).pages)
 IsCause f plan untouched before now NoMemory = untouched
 
 pub record HasFailed (f f' : SpaceFile) (plan : Plan) (untouched : Type 0) (old new : View) (e : CommitError) : Type 0 where

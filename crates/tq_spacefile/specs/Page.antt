@@ -5,6 +5,7 @@ use Rattle.tq_model.specs.declared.space.Shape.{Shape}
 use Rattle.tq_model.specs.Names.{is_name}
 use Rattle.tq_model.specs.Space.{overhead_pages}
 use Rattle.tq_model.specs.SpaceForm.{RawSpace, raw_space, shape_of}
+use Rattle.tq_model.specs.Site.{most_queues, most_transactions, most_messages, most_memory}
 use Rattle.tq_model.specs.Reading.{page_tests, hold_all}
 
 -- the bytes are these, and behind them zeros
@@ -39,8 +40,8 @@ raw_of s = record {
 -- the numbers of a creation are within their limits, and the pages are more than the overhead
 abbrev pub are_limits : Shape → Bool
 are_limits s =
-    (nat_le 1 s.queues && nat_le s.queues 256) && (nat_le 1 s.messages && nat_le s.messages 8192) && (nat_le 1 s.transactions && nat_le s.transactions 64)
-    && nat_le s.memory 16777216 && nat_lt (overhead_pages s) s.pages
+    (nat_le 1 s.queues && nat_le s.queues most_queues) && (nat_le 1 s.messages && nat_le s.messages most_messages)
+    && (nat_le 1 s.transactions && nat_le s.transactions most_transactions) && nat_le s.memory most_memory && nat_lt (overhead_pages s) s.pages
 
 -- no error queue, or one whose name is a name
 abbrev pub is_error : Option (List ℕ) → Bool

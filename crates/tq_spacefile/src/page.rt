@@ -5,7 +5,9 @@ ghost use Rattle.tq_model.specs.SpaceForm.{raw_space, page_spelt};
 ghost use Rattle.tq_spacefile.specs.Page.{IsZeroPadded, numbers_spelt, are_limits, is_error, is_creation, shape_in};
 
 use crate::bytes::{eight_bytes, put_behind, two_bytes, u16_at, u64_at, zeros};
-use tq_model::{Shape, name_in, overhead_pages};
+use tq_model::{
+    MOST_MEMORY, MOST_MESSAGES, MOST_QUEUES, MOST_TRANSACTIONS, Shape, name_in, overhead_pages,
+};
 use tq_types::Name;
 
 /// The first bytes of a new space: its first page, a page of zeros, and a closed gate.
@@ -101,9 +103,9 @@ fn error_in(page: &[u8], size: usize) -> Option<Option<Name>>
 fn are_limits(shape: &Shape) -> bool
     ensures { result ≡ are_limits shape.now }
 {
-    (1 <= shape.queues && shape.queues <= 256)
-        && (1 <= shape.messages && shape.messages <= 8192)
-        && (1 <= shape.transactions && shape.transactions <= 64)
-        && shape.memory <= 16_777_216
+    (1 <= shape.queues && shape.queues <= MOST_QUEUES)
+        && (1 <= shape.messages && shape.messages <= MOST_MESSAGES)
+        && (1 <= shape.transactions && shape.transactions <= MOST_TRANSACTIONS)
+        && shape.memory <= MOST_MEMORY
         && overhead_pages(shape) < u64::from(shape.pages)
 }

@@ -8,11 +8,8 @@ ghost use Rattle.tq_spacefile.specs.Payload.{IsArrival, IsRefusedBy, IsRefused};
 use crate::bytes::{four_bytes, two_bytes, u16_at, u32_at};
 use crate::fault::RecordError;
 use std::alloc::{AllocError, Global};
-use tq_model::{SpaceRecord, name_in};
+use tq_model::{LONGEST_BODY, SpaceRecord, name_in};
 use tq_types::{Arrival, Body, Name};
-
-/// The most bytes of a body.
-const LONGEST_BODY: usize = 65_536;
 
 // The kinds of payloads.
 const ADDED: u8 = 1;

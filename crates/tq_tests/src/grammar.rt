@@ -470,17 +470,7 @@ fn enqueues(rt: HostRuntime) -> Result<(), Fail> {
         let words = EnqueueWords {
             space: name_in(b"SP").ok_or("a name")?,
             queue: name_in(b"Q").ok_or("a name")?,
-            notran: false,
             flags: flags_of(rt.alloc(), flags)?,
-            prio: None,
-            deqtime: None,
-            exptime: None,
-            msgid: None,
-            corr: None,
-            replyq: None,
-            failq: None,
-            qos: None,
-            rqos: None,
             body: Body::new(rt.alloc(), body)?,
         };
         let request = Request::Call(CallRequest::Enqueue(*session, words));
@@ -508,10 +498,7 @@ fn dequeues(rt: HostRuntime) -> Result<(), Fail> {
         let words = DequeueWords {
             space: name_in(b"SP").ok_or("a name")?,
             queue: name_in(b"Q").ok_or("a name")?,
-            notran: false,
             flags: flags_of(rt.alloc(), flags)?,
-            msgid: None,
-            corr: None,
         };
         let request = Request::Call(CallRequest::Dequeue(session, words));
         assert_eq!(rt; parse(rt.alloc(), line)?, request, "at {line:?}");

@@ -1,8 +1,8 @@
-use Rattle.tq_host.proofs.Resting.{rest_on}
+use Rattle.tq_host.proofs.QuietLemmas.{rest_on}
 use Rattle.tq_host.proofs.Within.{in_a_row}
 use Rattle.tq_device.specs.Content.{IsAnyStep, IsBlankOrNew}
 use Rattle.tq_device.specs.Made.{IsShort, IsLaidOut}
-use Rattle.tq_device.proofs.Making.{any_steps, short_so_far}
+use Rattle.tq_device.proofs.CreationLemmas.{any_steps, short_so_far}
 use Rattle.tq_device.proofs.Pieces.{settled_has}
 use Rattle.tq_device.proofs.creating.create.Goals as goal
 

@@ -1,6 +1,6 @@
 use Rattle.std.proofs.Common.{sym, subst, arith}
 use Rattle.tq_device.specs.Made.{IsLaidOut}
-use Rattle.tq_device.proofs.Making.{laid_out}
+use Rattle.tq_device.proofs.CreationLemmas.{laid_out}
 use Rattle.tq_device.proofs.Pieces.{at_ok}
 use Rattle.tq_device.proofs.creating.lay_out.Goals as goal
 

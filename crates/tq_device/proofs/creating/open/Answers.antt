@@ -3,7 +3,7 @@ use Rattle.tq_host.specs.Calls.{IsPulled}
 use Rattle.tq_host.proofs.Within.{starts, still, changes}
 use Rattle.tq_device.specs.Content.{HasContent, IsAnyStep, IsBlankOrNew, new_content}
 use Rattle.tq_device.specs.Made.{IsLaidOut}
-use Rattle.tq_device.proofs.Making.{any_steps, opened, pulled_open, laid_is_blank}
+use Rattle.tq_device.proofs.CreationLemmas.{any_steps, opened, pulled_open, laid_is_blank}
 use Rattle.tq_device.proofs.Pieces.{at_ok}
 use Rattle.tq_device.proofs.creating.open.Goals as goal
 

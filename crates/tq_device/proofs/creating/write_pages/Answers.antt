@@ -1,9 +1,9 @@
 use Rattle.std.proofs.Common.{◌∙◌, length}
-use Rattle.tq_host.proofs.Resting.{rest_on}
+use Rattle.tq_host.proofs.QuietLemmas.{rest_on}
 use Rattle.tq_host.proofs.Within.{in_a_row}
 use Rattle.tq_device.specs.Content.{IsAnyStep}
 use Rattle.tq_device.specs.Made.{IsShort}
-use Rattle.tq_device.proofs.Making.{any_steps, made_more}
+use Rattle.tq_device.proofs.CreationLemmas.{any_steps, made_more}
 use Rattle.tq_device.proofs.creating.write_pages.Goals as goal
 
 pub returns-in_err-write_page-clause-stop : goal.returns-in_err-write_page-clause-stop

@@ -1,5 +1,5 @@
 use Rattle.std.proofs.Common.{List, ℕ}
-use Rattle.tq_host.proofs.Resting.{rest_on}
+use Rattle.tq_host.proofs.QuietLemmas.{rest_on}
 use Rattle.tq_host.proofs.Within.{weaker, in_a_row}
 use Rattle.tq_device.specs.Content.{HasContent, IsSameButTable, IsOldOrEntered}
 use Rattle.tq_device.specs.Entered.{IsTableFilled}

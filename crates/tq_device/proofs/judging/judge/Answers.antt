@@ -7,7 +7,7 @@ use Rattle.tq_device.specs.declared.content.NamedSpace.{NamedSpace}
 use Rattle.tq_device.specs.Parts.{is_base, is_placed, is_header, is_table, is_journal, is_device}
 use Rattle.tq_device.specs.Judged.{space_named}
 use Rattle.tq_device.specs.declared.content.DeviceContent.{DeviceContent}
-use Rattle.tq_device.proofs.Standing.{part_known}
+use Rattle.tq_device.proofs.ContentLemmas.{part_known}
 use Rattle.tq_device.proofs.FirstEntry.{named_whole}
 use Rattle.tq_device.proofs.Limits.{named_within}
 use Rattle.tq_device.proofs.judging.judge.Goals as goal

@@ -1,7 +1,7 @@
 use Rattle.std.proofs.Common.{◌≡◌, ◌+◌, ℕ, List, length, get_or, arith, sym, subst, ap, ◌∙◌}
 use Rattle.tq_gate.specs.Log.{IsOpen, added}
 use Rattle.tq_gate.proofs.Contents.{log_within}
-use Rattle.tq_gate.proofs.Staging.{opens, opens_still, opened, torn_of}
+use Rattle.tq_gate.proofs.StageLemmas.{opens, opens_still, opened, torn_of}
 use Rattle.tq_gate.proofs.pieces.open_gate.Goals as goal
 
 pub returns-in_err-write_at-clause-stop : goal.returns-in_err-write_at-clause-stop

@@ -3,7 +3,7 @@ use Rattle.std.proofs.lemmas.List.{take_rest}
 use Rattle.tq_gate.specs.Frame.{payload_in}
 use Rattle.tq_gate.specs.Log.{IsStagedIn}
 use Rattle.tq_gate.proofs.FrameLemmas.{length-behind_gate}
-use Rattle.tq_gate.proofs.Staging.{keeps_start, keeps_write, keeps_still, staged}
+use Rattle.tq_gate.proofs.StageLemmas.{keeps_start, keeps_write, keeps_still, staged}
 use Rattle.tq_gate.proofs.pieces.stage.Goals as goal
 
 pub returns-in_err-write_at-clause-stop : goal.returns-in_err-write_at-clause-stop

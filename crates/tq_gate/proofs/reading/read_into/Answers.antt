@@ -1,8 +1,8 @@
 use Rattle.std.proofs.Common.{◌≡◌, ◌≤◌, ◌+◌, ◌-◌, List, ℕ, length, take, drop, get_or, sym, ap, ◌∙◌, refl, arith, length-drop}
 use Rattle.std.proofs.lemmas.List.{length-take-le}
 use Rattle.tq_gate.specs.Layout.{address}
-use Rattle.tq_gate.proofs.Stretches.{length-put_mid, filled, is_bytes_from}
-use Rattle.tq_gate.proofs.Quieting.{quiet_start, quiet_call, quiet_on}
+use Rattle.tq_gate.proofs.RangeLemmas.{length-put_mid, filled, is_bytes_from}
+use Rattle.tq_gate.proofs.ReadOnlyLemmas.{quiet_start, quiet_call, quiet_on}
 use Rattle.tq_gate.proofs.reading.read_into.Goals as goal
 
 part_long : (xs : List ℕ) (at n : ℕ) → at + n ≤ length xs → length (take (at + n - at) (drop at xs)) ≡ n

@@ -14,5 +14,5 @@ returns-clause-reply c =
     let within = device-within ds dev c.args.place.entry c.requires in
     let here : get_or ds dev None ≡ Some c.in-Some.device = sym (get_or_default ds dev c.index-devices-place.result None within) ∙ c.in-Some.is in
     subst
-    (λ (d : Option Volume). IfOk c.call.result (λ reply. MatchOption (entry_of d c.args.place.entry) ⊥ (λ p. IsReply (logged_outcome c.args.call.now c.args.clock c.args.next p) reply)))
+    (λ (d : Option Volume). IfOk c.call.result (λ reply. MatchOption (entry_of d c.args.place.entry) ⊥ (λ p. IsReply (logged_outcome c.args.call.now p) reply)))
     (sym here) c.call.ensures.reply

@@ -1,12 +1,12 @@
-use Rattle.std.proofs.Common.{List, ℕ, refl, sym, ◌∙◌, ap}
+use Rattle.std.proofs.Common.{◌≡◌, List, ℕ, refl, sym, ◌∙◌, ap}
 use Rattle.std.specs.Prelude.{is_some}
-use Rattle.tq_model.specs.Site.{space_named}
+use Rattle.tq_model.specs.Site.{space_named, durable}
 use Rattle.tq_model.specs.Step.{on_space}
 use Rattle.tq_run.specs.Manager.{site_of}
 use Rattle.tq_run.specs.Serving.{ChangesOnce}
 use Rattle.tq_run.specs.SpaceCalls.{space_name, outcome_of}
 use Rattle.tq_run.proofs.DeviceStopLemmas.{stays, told_stops}
-use Rattle.tq_run.proofs.CallStepLemmas.{IsNamedIn, named_in, behind, within_call, after_call}
+use Rattle.tq_run.proofs.CallStepLemmas.{IsNamedIn, named_in, behind, takes_nothing, within_call, after_call}
 use Rattle.tq_run.proofs.calls.call_space.Given.{Over}
 use Rattle.tq_run.proofs.calls.call_space.Goals as goal
 use Rattle.tq_run.proofs.calls.call_space.Goals.{In-Some, After-call_file}
@@ -43,3 +43,15 @@ returns-clause-served g c =
 
 pub returns-then-not-is_named-clause-stop : goal.returns-then-not-is_named-clause-stop
 returns-then-not-is_named-clause-stop g c = stays _ _ _ c.requires.on
+
+idle : (g : Over) (c : After-call_file g) → durable (on_space (space_name c.args.call) (outcome_of c.args.call) (site_of c.args.manager.now)).site ≡ durable (site_of c.args.manager.now)
+    → c.call_file.new.host ≡ c.args.host.now
+idle g c same =
+    let at = named g (goal.at.After-call_file g c).In-Some in
+    c.call_file.ensures.idle (takes_nothing c.args.manager.now c.args.call c.in-Some.file c.in-Some.is at c.next_arrival-next.result c.next_arrival-next.ensures same)
+
+pub returns-in_err-reply-clause-idle : goal.returns-in_err-reply-clause-idle
+returns-in_err-reply-clause-idle g c = λ same. idle g (goal.at.returns-in_err-reply-clause-idle g c).After-call_file same
+
+pub returns-clause-idle : goal.returns-clause-idle
+returns-clause-idle g c = λ same. idle g (goal.at.returns-clause-idle g c).After-call_file same

@@ -1,21 +1,23 @@
 use Rattle.std.specs.Result.{IsErrAnd}
-use Rattle.std.proofs.Common.{◌≡◌, ◌≤◌, ◌∙◌, Option, Result, Err, false, length, subst, ap, sym, rules}
-use Rattle.tq_device.specs.declared.content.NamedSpace.{NamedSpace}
+use Rattle.std.proofs.Common.{◌≡◌, ◌≤◌, ◌∙◌, Option, Result, Err, false, length, refl, subst, ap, sym, rules}
 use Rattle.tq_spacefile.specs.declared.place.SpacePlace.{SpacePlace}
 use Rattle.tq_spacefile.specs.declared.file.SpaceFile.{SpaceFile}
 use Rattle.tq_spacefile.specs.declared.fault.FileError.{FileError}
 use Rattle.tq_spacefile.specs.declared.fault.FileError.TheVariants as files
-use Rattle.tq_spacefile.specs.File.{IsFile, place_in, has_space}
+use Rattle.tq_spacefile.specs.File.{has_space}
 use Rattle.tq_spacefile.specs.Place.{space_end}
 use Rattle.tq_run.specs.declared.status.BootFailure.{BootFailure}
 use Rattle.tq_run.specs.declared.status.BootFailure.TheVariants as boots
 use Rattle.tq_run.specs.Counts.{boot_failure_of}
-use Rattle.tq_run.specs.Manager.{IsFileAt}
 use Rattle.tq_run.specs.Together.{place_of}
 use Rattle.tq_run.proofs.FoundLemmas.{damaged_space}
-use Rattle.tq_run.proofs.LoadLemmas.{damaged_file}
-use Rattle.tq_device.proofs.Offered.{stands_reach}
+use Rattle.tq_device.proofs.ForCallers.{stands_reach}
 use Rattle.tq_run.proofs.manager.load_space.Goals as goal
+
+damaged_file : (e : FileError) → boot_failure_of e ≡ boots.Damaged → e ≡ files.Damaged
+damaged_file files.Damaged is = refl
+damaged_file files.NoMemory is = absurd (cc)
+damaged_file files.Device is = absurd (cc)
 
 pub load-requires-clause-reach : goal.load-requires-clause-reach
 load-requires-clause-reach g c = λ t.

@@ -25,10 +25,10 @@ returns-in-Ok c = λ next.
 
 pub returns-in-Err-Taken : goal.returns-in-Err-Taken
 returns-in-Err-Taken c = λ next.
-    queue_refused c.args.name.now (held_in c.args.file.now) next _ (queue_taken c.args.name.now (held_in c.args.file.now) (meets (goal.at.returns-in-Err-Taken c).After-plan_queue (Err Taken) (c.in-Err-Taken.is ∙ ap (λ (e : QueueRefusal). Err e) c.in-Err-Taken.field-0-is)))
+    queue_refused c.args.name.now (held_in c.args.file.now) _ (queue_taken c.args.name.now (held_in c.args.file.now) (meets (goal.at.returns-in-Err-Taken c).After-plan_queue (Err Taken) (c.in-Err-Taken.is ∙ ap (λ (e : QueueRefusal). Err e) c.in-Err-Taken.field-0-is)))
 
 pub returns-in-Err-QueueFull : goal.returns-in-Err-QueueFull
 returns-in-Err-QueueFull c = λ next.
     let limit = c.in-Err-QueueFull.limit in
     let met = meets (goal.at.returns-in-Err-QueueFull c).After-plan_queue (Err (QueueFull limit)) (c.in-Err-QueueFull.is ∙ ap (λ (e : QueueRefusal). Err e) c.in-Err-QueueFull.field-0-is) in
-    queue_refused c.args.name.now (held_in c.args.file.now) next _ (queue_full c.args.name.now (held_in c.args.file.now) limit met)
+    queue_refused c.args.name.now (held_in c.args.file.now) _ (queue_full c.args.name.now (held_in c.args.file.now) limit met)

@@ -5,7 +5,7 @@ use Rattle.tq_run.specs.declared.site.Manager.{Manager}
 use Rattle.tq_run.specs.declared.state.State.TheVariants as states
 use Rattle.tq_run.specs.declared.status.BootFailure.{BootFailure}
 use Rattle.tq_run.specs.declared.status.BootFailure.TheVariants as boots
-use Rattle.tq_run.specs.Counts.{Rises, CountsBoot}
+use Rattle.tq_run.specs.Counts.{CountsBoot}
 use Rattle.tq_run.specs.Standing.{HasTurned}
 use Rattle.tq_run.proofs.BootTurnLemmas.{quiet_stop, failed_stop, booted_turn, damaged_turned, failed_turn}
 use Rattle.tq_run.proofs.responding.reboot.Given.{Over}

@@ -1,5 +1,6 @@
-use Rattle.std.proofs.Common.{◌≡◌, Result, Err, sym, subst, rules}
+use Rattle.std.proofs.Common.{◌≡◌, Result, Err, sym, subst, ap, rules}
 use Rattle.std.proofs.lemmas.Result.{IfOk-at_ok}
+use Rattle.tq_host.specs.View.{View}
 use Rattle.tq_model.specs.declared.answer.Answer.{Answer}
 use Rattle.tq_model.specs.declared.answer.Answer.TheVariants as answers
 use Rattle.tq_model.specs.MachineWithFaults.{down_answer}
@@ -7,10 +8,8 @@ use Rattle.tq_run.specs.declared.state.State.{State}
 use Rattle.tq_run.specs.declared.state.State.TheVariants as states
 use Rattle.tq_run.specs.declared.status.Failure.{Failure}
 use Rattle.tq_run.specs.declared.status.Failure.TheVariants.{Memory, Device}
-use Rattle.tq_run.specs.Counts.{Rises}
 use Rattle.tq_run.specs.Serving.{CountsFailure}
 use Rattle.tq_run.specs.Standing.{HasTurned, IsTurning}
-use Rattle.tq_run.proofs.DeviceStopLemmas.{rest_kept}
 use Rattle.tq_run.proofs.RespondLemmas.{served, serving, failed, failing, refused, refusing}
 use Rattle.tq_run.proofs.responding.serve_standing.Goals as goal
 
@@ -29,48 +28,39 @@ pub returns-in-Ok-clause-turned : goal.returns-in-Ok-clause-turned
 returns-in-Ok-clause-turned g c = λ t.
     let a = g.H.Host.view c.args.host.now in
     let b = g.H.Host.view c.serve-served.new.host in
-    let is = c.in-Ok.is in
     let does = c.serve-served.ensures in
-    let same : b.faults ≡ a.faults = subst (λ (r : Result Answer Failure). CountsFailure r a.faults b.faults) is does.failed in
+    let same : b.faults ≡ a.faults = subst (λ (r : Result Answer Failure). CountsFailure r a.faults b.faults) c.in-Ok.is does.failed in
     subst (λ (s : State). HasTurned s (states.Up c.serve-served.new.manager) c.args.request c.in-Ok.answer a b) (sym c.in-Up.is)
-    (served c.in-Up.manager c.args.request a b c.requires.boot c.serve-served.new.manager c.in-Ok.answer same (IfOk-at_ok _ is does.served) does.stop)
+    (served c.in-Up.manager c.args.request a b c.requires.boot does.stop (λ e. ap (λ (v : View). v.clock) (ap g.H.Host.view (does.idle e))) c.serve-served.new.manager c.in-Ok.answer same (IfOk-at_ok _ c.in-Ok.is does.served))
 
 pub returns-in-Ok-clause-stop : goal.returns-in-Ok-clause-stop
 returns-in-Ok-clause-stop g c = λ t.
     let a = g.H.Host.view c.args.host.now in
     let b = g.H.Host.view c.serve-served.new.host in
     let same : b.faults ≡ a.faults = subst (λ (r : Result Answer Failure). CountsFailure r a.faults b.faults) c.in-Ok.is c.serve-served.ensures.failed in
-    subst (λ (s : State). IsTurning s c.args.request a b) (sym c.in-Up.is) (serving c.in-Up.manager c.args.request a b c.requires.boot same c.serve-served.ensures.stop)
+    subst (λ (s : State). IsTurning s c.args.request a b) (sym c.in-Up.is) (serving c.in-Up.manager c.args.request a b c.requires.boot c.serve-served.ensures.stop same)
 
 pub returns-in-Err-Device-clause-turned : goal.returns-in-Err-Device-clause-turned
 returns-in-Err-Device-clause-turned g c = λ t.
     let a = g.H.Host.view c.args.host.now in
     let b = g.H.Host.view c.serve-served.new.host in
+    let does = c.serve-served.ensures in
     let is : c.serve-served.result ≡ Err Device = search rules in
-    let rose : Rises a.faults b.faults = subst (λ (r : Result Answer Failure). CountsFailure r a.faults b.faults) is c.serve-served.ensures.failed in
-    subst (λ (s : State). HasTurned s states.Down c.args.request answers.SystemError a b) (sym c.in-Up.is) (failed c.in-Up.manager c.args.request a b c.requires.boot rose c.serve-served.ensures.stop)
+    subst (λ (s : State). HasTurned s states.Down c.args.request answers.SystemError a b) (sym c.in-Up.is)
+    (failed c.in-Up.manager c.args.request a b c.requires.boot does.stop (λ e. ap (λ (v : View). v.clock) (ap g.H.Host.view (does.idle e))) (subst (λ (r : Result Answer Failure). CountsFailure r a.faults b.faults) is does.failed))
 
 pub returns-in-Err-Device-clause-stop : goal.returns-in-Err-Device-clause-stop
 returns-in-Err-Device-clause-stop g c = λ t.
     let a = g.H.Host.view c.args.host.now in
     let b = g.H.Host.view c.serve-served.new.host in
     let is : c.serve-served.result ≡ Err Device = search rules in
-    let rose : Rises a.faults b.faults = subst (λ (r : Result Answer Failure). CountsFailure r a.faults b.faults) is c.serve-served.ensures.failed in
-    subst (λ (s : State). IsTurning s c.args.request a b) (sym c.in-Up.is) (failing c.in-Up.manager c.args.request a b c.requires.boot rose c.serve-served.ensures.stop)
+    subst (λ (s : State). IsTurning s c.args.request a b) (sym c.in-Up.is)
+    (failing c.in-Up.manager c.args.request a b c.requires.boot c.serve-served.ensures.stop (subst (λ (r : Result Answer Failure). CountsFailure r a.faults b.faults) is c.serve-served.ensures.failed))
 
 pub returns-in-Err-Memory-clause-stop : goal.returns-in-Err-Memory-clause-stop
 returns-in-Err-Memory-clause-stop g c = λ t.
     let a = g.H.Host.view c.args.host.now in
     let b = g.H.Host.view c.serve-served.new.host in
     let is : c.serve-served.result ≡ Err Memory = search rules in
-    let same : b.faults ≡ a.faults = subst (λ (r : Result Answer Failure). CountsFailure r a.faults b.faults) is c.serve-served.ensures.failed in
-    subst (λ (s : State). IsTurning s c.args.request a b) (sym c.in-Up.is) (serving c.in-Up.manager c.args.request a b c.requires.boot same c.serve-served.ensures.stop)
-
-pub returns-in-Ok-clause-rest : goal.returns-in-Ok-clause-rest
-returns-in-Ok-clause-rest g c = rest_kept _ _ _ _ c.serve-served.ensures.stop
-
-pub returns-in-Err-Device-clause-rest : goal.returns-in-Err-Device-clause-rest
-returns-in-Err-Device-clause-rest g c = rest_kept _ _ _ _ c.serve-served.ensures.stop
-
-pub returns-in-Err-Memory-clause-rest : goal.returns-in-Err-Memory-clause-rest
-returns-in-Err-Memory-clause-rest g c = rest_kept _ _ _ _ c.serve-served.ensures.stop
+    subst (λ (s : State). IsTurning s c.args.request a b) (sym c.in-Up.is)
+    (serving c.in-Up.manager c.args.request a b c.requires.boot c.serve-served.ensures.stop (subst (λ (r : Result Answer Failure). CountsFailure r a.faults b.faults) is c.serve-served.ensures.failed))

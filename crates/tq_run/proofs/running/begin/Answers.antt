@@ -1,26 +1,35 @@
-use Rattle.std.proofs.Common.{◌≡◌, ℕ, List, [], ◌∷◌, Option, Err, length, refl, sym, ◌∙◌, ap, subst, rules}
-use Rattle.tq_host.specs.View.{Streams}
+use Rattle.std.proofs.Common.{◌≡◌, ◌≢◌, ℕ, List, [], ◌∷◌, Option, Some, Err, length, refl, sym, ◌∙◌, ap, subst}
+use Rattle.tq_host.specs.View.{Streams, TellsAll, AreSettled}
 use Rattle.tq_host.specs.Calls.{IsGiven, IsGiving}
 use Rattle.tq_host.specs.Within.{Ran}
 use Rattle.tq_model.specs.Text.{line_text}
 use Rattle.tq_model.specs.declared.answer.Answer.{Answer}
-use Rattle.tq_run.specs.declared.status.RunEnd.{RunEnd}
 use Rattle.tq_run.specs.declared.status.BootFailure.{BootFailure}
 use Rattle.tq_run.specs.declared.status.BootFailure.TheVariants as boots
-use Rattle.tq_run.specs.Counts.{end_after_boot}
+use Rattle.tq_run.specs.Counts.{CountsBoot, start_end_of_boot}
 use Rattle.tq_run.specs.declared.site.Manager.{Manager}
 use Rattle.tq_run.specs.Manager.{is_bootable}
-use Rattle.tq_run.proofs.RunDeviceLemmas.{same_found, was_bootable}
+use Rattle.tq_run.proofs.RunDeviceLemmas.{same_found}
 use Rattle.tq_model.proofs.LineText.{length-line_text}
 use Rattle.tq_run.proofs.Line0Lemmas.{attach_over, boot_ended, first_over, first_started, calm_none, calm_given, begun_given}
-use Rattle.tq_run.proofs.LineByLineLemmas.{tells_none, tells_given}
-use Rattle.tq_run.proofs.CountLemmas.{of_ok, ok_before, at_err, boot_quiet, boot_counts, err_is, same_Err, damaged_boot}
-use Rattle.tq_run.proofs.RespondLemmas.{quiet_unless}
-use Rattle.tq_run.proofs.LeftAloneLemmas.{alone_on, alone_attached, contradicts, attached_none, attached_given, one_attached}
+use Rattle.tq_run.proofs.CountLemmas.{at_err, err_is, same_Err, damaged_boot}
+use Rattle.tq_run.proofs.LeftAloneLemmas.{alone_on, alone_attached, attached_none, attached_given, one_attached}
+use Rattle.tq_model.specs.Site.{Site}
+use Rattle.tq_model.specs.Reading.{site_found}
+use Rattle.tq_model.specs.declared.request.Request.TheVariants.{Boot}
+use Rattle.tq_run.specs.Turns.{RunsOver, origin_of, none_failed}
+use Rattle.tq_run.specs.Words.{device_count}
+use Rattle.tq_run.proofs.running.begin.Given.{Over}
 use Rattle.tq_run.proofs.running.begin.Goals as goal
+use Rattle.tq_run.proofs.running.begin.Goals.{After-give_answer}
 
-pub returns-in_err-map_err-clause-stop : goal.returns-in_err-map_err-clause-stop
-returns-in_err-map_err-clause-stop g c = λ t settled found is raisable.
+quiet_boot : (failure : BootFailure) (before now : ℕ) → CountsBoot {T = Manager} (Err failure) before now → failure ≢ boots.Device → now ≡ before
+quiet_boot boots.Damaged before now counts other = counts
+quiet_boot boots.Memory before now counts other = counts
+quiet_boot boots.Device before now counts other = absurd (other refl)
+
+pub returns-in_err-attach-clause-stop : goal.returns-in_err-attach-clause-stop
+returns-in_err-attach-clause-stop g c = λ t settled found is raisable.
     let a = g.H.Host.view c.args.host.now in
     let b = g.H.Host.view c.attach.new.self in
     attach_over found a b is c.attach.ensures.call c.attach.ensures.attached settled
@@ -30,34 +39,26 @@ returns-in_err-manager-clause-stop g c = λ t settled found is raisable.
     let a = g.H.Host.view c.args.host.now in
     let b = g.H.Host.view c.attach.new.self in
     let d = g.H.Host.view c.boot.new.host in
-    let attached : b.faults ≡ a.faults = of_ok c.attach.result _ _ (ok_before _ _ _ _ c.map_err.ensures.cases c.in_ok-map_err.was) c.attach.ensures.call.cause.ok in
-    boot_ended found a b is c.attach.ensures.call c.attach.ensures.attached d c.boot.ensures.rest.streams (c.boot.ensures.stop t.reads) attached (end_after_boot c.in_err-manager.field-0.0) (boot_counts Manager c.in_err-manager.field-0.0 b d c.boot.ensures.rest.streams c.in_err-manager.ensures.failed) settled
+    boot_ended found a b is c.attach.ensures.call c.attach.ensures.attached d c.boot.ensures.rest.streams (c.boot.ensures.stop t.reads) c.in_ok-attach.ensures.call.cause.ok Manager c.in_err-manager.field-0.0 c.in_err-manager.ensures.failed settled
+
+-- line 0, of which some part is given
+over_given : (g : Over) (c : After-give_answer g) → TellsAll g.H.Host.tells → AreSettled device_count (g.H.Host.view c.args.host.now) → (found : Site) → site_found device_count (g.H.Host.view c.args.host.now).reads ≡ Some found
+    → RunsOver (origin_of (g.H.Host.view c.args.host.now)) found none_failed (Boot ∷ []) (g.H.Host.view c.args.host.now) (g.H.Host.view c.give_answer.new.host)
+over_given g c t settled found is =
+    let a = g.H.Host.view c.args.host.now in
+    let b = g.H.Host.view c.attach.new.self in
+    let d = g.H.Host.view c.boot.new.host in
+    let e = g.H.Host.view c.give_answer.new.host in
+    let some = c.give_answer.ensures.some t.output in
+    first_over found a b is c.attach.ensures.call c.attach.ensures.attached d c.boot.ensures.rest.streams (c.boot.ensures.stop t.reads) (c.in_ok-manager.ensures.failed ∙ c.in_ok-attach.ensures.call.cause.ok) c.in_ok-manager.manager e (c.in_ok-manager.ensures.booted t.reads)
+    c.in_ok-manager.ensures.on c.give_answer.ensures.faults c.give_answer.ensures.images some.0
+    (subst (λ (ans : Answer). IsGiven some.0 (line_text 0 ans) d e) c.readiness.ensures some.1) (subst (λ (ans : Answer). Ran (IsGiving (line_text 0 ans) d e) d e) c.readiness.ensures c.give_answer.ensures.gives) settled
 
 pub returns-in_err-give_answer-clause-stop : goal.returns-in_err-give_answer-clause-stop
-returns-in_err-give_answer-clause-stop g c = λ t settled found is raisable.
-    let a = g.H.Host.view c.args.host.now in
-    let b = g.H.Host.view c.attach.new.self in
-    let d = g.H.Host.view c.boot.new.host in
-    let e = g.H.Host.view c.give_answer.new.host in
-    let quiet = boot_quiet b d c.boot.ensures.rest.streams c.in_ok-manager.ensures.failed in
-    let attached : b.faults ≡ a.faults = of_ok c.attach.result _ _ (ok_before _ _ _ _ c.map_err.ensures.cases c.in_ok-map_err.was) c.attach.ensures.call.cause.ok in
-    let some = c.give_answer.ensures.some t.output in
-    first_over found a b is c.attach.ensures.call c.attach.ensures.attached d c.boot.ensures.rest.streams (c.boot.ensures.stop t.reads) (quiet.device ∙ attached) c.in_ok-manager.manager e (c.in_ok-manager.ensures.booted t.reads)
-    c.in_ok-manager.ensures.on c.give_answer.ensures.faults c.give_answer.ensures.images some.0
-    (subst (λ (ans : Answer). IsGiven some.0 (line_text 0 ans) d e) c.readiness.ensures some.1) (subst (λ (ans : Answer). Ran (IsGiving (line_text 0 ans) d e) d e) c.readiness.ensures c.give_answer.ensures.gives) settled
+returns-in_err-give_answer-clause-stop g c = λ t settled found is raisable. over_given g (goal.at.returns-in_err-give_answer-clause-stop g c).After-give_answer t settled found is
 
 pub returns-clause-stop : goal.returns-clause-stop
-returns-clause-stop g c = λ t settled found is raisable.
-    let a = g.H.Host.view c.args.host.now in
-    let b = g.H.Host.view c.attach.new.self in
-    let d = g.H.Host.view c.boot.new.host in
-    let e = g.H.Host.view c.give_answer.new.host in
-    let quiet = boot_quiet b d c.boot.ensures.rest.streams c.in_ok-manager.ensures.failed in
-    let attached : b.faults ≡ a.faults = of_ok c.attach.result _ _ (ok_before _ _ _ _ c.map_err.ensures.cases c.in_ok-map_err.was) c.attach.ensures.call.cause.ok in
-    let some = c.give_answer.ensures.some t.output in
-    first_over found a b is c.attach.ensures.call c.attach.ensures.attached d c.boot.ensures.rest.streams (c.boot.ensures.stop t.reads) (quiet.device ∙ attached) c.in_ok-manager.manager e (c.in_ok-manager.ensures.booted t.reads)
-    c.in_ok-manager.ensures.on c.give_answer.ensures.faults c.give_answer.ensures.images some.0
-    (subst (λ (ans : Answer). IsGiven some.0 (line_text 0 ans) d e) c.readiness.ensures some.1) (subst (λ (ans : Answer). Ran (IsGiving (line_text 0 ans) d e) d e) c.readiness.ensures c.give_answer.ensures.gives) settled
+returns-clause-stop g c = λ t settled found is raisable. over_given g (goal.at.returns-clause-stop g c).After-give_answer t settled found is
 
 pub returns-clause-reached : goal.returns-clause-reached
 returns-clause-reached g c = λ t found is.
@@ -65,9 +66,7 @@ returns-clause-reached g c = λ t found is.
     let b = g.H.Host.view c.attach.new.self in
     let d = g.H.Host.view c.boot.new.host in
     let e = g.H.Host.view c.give_answer.new.host in
-    let quiet = boot_quiet b d c.boot.ensures.rest.streams c.in_ok-manager.ensures.failed in
-    let attached : b.faults ≡ a.faults = of_ok c.attach.result _ _ (ok_before _ _ _ _ c.map_err.ensures.cases c.in_ok-map_err.was) c.attach.ensures.call.cause.ok in
-    first_started found a b is c.attach.ensures.call c.attach.ensures.attached d c.boot.ensures.rest.streams (c.boot.ensures.stop t.reads) (quiet.device ∙ attached) c.in_ok-manager.manager e (c.in_ok-manager.ensures.booted t.reads)
+    first_started found a b is c.attach.ensures.call c.attach.ensures.attached d c.boot.ensures.rest.streams (c.boot.ensures.stop t.reads) (c.in_ok-manager.ensures.failed ∙ c.in_ok-attach.ensures.call.cause.ok) c.in_ok-manager.manager e (c.in_ok-manager.ensures.booted t.reads)
     c.in_ok-manager.ensures.on c.give_answer.ensures.faults c.give_answer.ensures.images _
     (subst (λ (ans : Answer). IsGiven (length (line_text 0 ans)) (line_text 0 ans) d e) c.readiness.ensures (c.in_ok-give_answer.ensures.gave t.output))
     (subst (λ (ans : Answer). Ran (IsGiving (line_text 0 ans) d e) d e) c.readiness.ensures c.give_answer.ensures.gives) refl (c.give_answer.ensures.still 0)
@@ -76,30 +75,21 @@ pub returns-in_err-manager-clause-damaged : goal.returns-in_err-manager-clause-d
 returns-in_err-manager-clause-damaged g c = λ e t.
     let a = (g.H.Host.view c.args.host.now).reads in
     let b = (g.H.Host.view c.attach.new.self).reads in
-    let ends : c.from_residual-in_err-manager.result ≡ Err (end_after_boot c.in_err-manager.field-0.0) = err_is _ _ c.from_residual-in_err-manager.ensures.1 in
+    let ends : c.from_residual-in_err-manager.result ≡ Err (start_end_of_boot c.in_err-manager.field-0.0) = err_is _ _ c.from_residual-in_err-manager.ensures.1 in
     let failed : c.boot.result ≡ Err boots.Damaged = c.in_err-manager.was ∙ ap (λ (x : BootFailure). Err x) (damaged_boot c.in_err-manager.field-0.0 (same_Err _ _ (sym ends ∙ e))) in
     ap is_bootable (sym (same_found b a (c.attach.ensures.attached.reads 0))) ∙ c.boot.ensures.damaged failed t
-
-pub returns-in_err-give_answer-clause-bootable : goal.returns-in_err-give_answer-clause-bootable
-returns-in_err-give_answer-clause-bootable g c = λ damaged device memory t.
-    was_bootable c.in_ok-manager.manager (g.H.Host.view c.args.host.now) (g.H.Host.view c.attach.new.self) (g.H.Host.view c.boot.new.host) (c.attach.ensures.attached.reads 0) (c.in_ok-manager.ensures.booted t)
-
-pub returns-clause-bootable : goal.returns-clause-bootable
-returns-clause-bootable g c = λ damaged device memory t.
-    was_bootable c.in_ok-manager.manager (g.H.Host.view c.args.host.now) (g.H.Host.view c.attach.new.self) (g.H.Host.view c.boot.new.host) (c.attach.ensures.attached.reads 0) (c.in_ok-manager.ensures.booted t)
 
 pub returns-in_err-manager-clause-calm : goal.returns-in_err-manager-clause-calm
 returns-in_err-manager-clause-calm g c =
     let a = g.H.Host.view c.args.host.now in
     let b = g.H.Host.view c.attach.new.self in
     let d = g.H.Host.view c.boot.new.host in
-    let attached : b.faults ≡ a.faults = of_ok c.attach.result _ _ (ok_before _ _ _ _ c.map_err.ensures.cases c.in_ok-map_err.was) c.attach.ensures.call.cause.ok in
     let result = c.from_residual-in_err-manager.result in
     let failure = c.in_err-manager.field-0.0 in
-    let same : result ≡ Err (end_after_boot failure) = err_is _ _ c.from_residual-in_err-manager.ensures.1 in
+    let same : result ≡ Err (start_end_of_boot failure) = err_is _ _ c.from_residual-in_err-manager.ensures.1 in
     at_err result _
     (λ no t. calm_none a d (ap (λ (s : Streams). s.stamps) (c.boot.ensures.rest.streams ∙ c.attach.ensures.call.streams))
-    (quiet_unless (end_after_boot failure) b d (boot_counts Manager failure b d c.boot.ensures.rest.streams c.in_err-manager.ensures.failed) (λ e. no (same ∙ ap (λ (x : RunEnd). Err x) e)) ∙ attached))
+    (quiet_boot failure _ _ c.in_err-manager.ensures.failed (λ e. no (same ∙ ap (λ (x : BootFailure). Err (start_end_of_boot x)) e)) ∙ c.in_ok-attach.ensures.call.cause.ok))
 
 pub returns-in_err-give_answer-clause-calm : goal.returns-in_err-give_answer-clause-calm
 returns-in_err-give_answer-clause-calm g c =
@@ -107,10 +97,8 @@ returns-in_err-give_answer-clause-calm g c =
     let b = g.H.Host.view c.attach.new.self in
     let d = g.H.Host.view c.boot.new.host in
     let e = g.H.Host.view c.give_answer.new.host in
-    let quiet = boot_quiet b d c.boot.ensures.rest.streams c.in_ok-manager.ensures.failed in
-    let attached : b.faults ≡ a.faults = of_ok c.attach.result _ _ (ok_before _ _ _ _ c.map_err.ensures.cases c.in_ok-map_err.was) c.attach.ensures.call.cause.ok in
     at_err c.from_residual-in_err-give_answer.result _
-    (λ no t. let some = c.give_answer.ensures.some t in calm_given a d e some.0 _ (c.boot.ensures.rest.streams ∙ c.attach.ensures.call.streams) (quiet.device ∙ attached) c.give_answer.ensures.faults some.1)
+    (λ no t. let some = c.give_answer.ensures.some t in calm_given a d e some.0 _ (c.boot.ensures.rest.streams ∙ c.attach.ensures.call.streams) (c.in_ok-manager.ensures.failed ∙ c.in_ok-attach.ensures.call.cause.ok) c.give_answer.ensures.faults some.1)
 
 pub returns-clause-begun : goal.returns-clause-begun
 returns-clause-begun g c = λ t.
@@ -118,27 +106,7 @@ returns-clause-begun g c = λ t.
     let b = g.H.Host.view c.attach.new.self in
     let d = g.H.Host.view c.boot.new.host in
     let e = g.H.Host.view c.give_answer.new.host in
-    let quiet = boot_quiet b d c.boot.ensures.rest.streams c.in_ok-manager.ensures.failed in
-    let attached : b.faults ≡ a.faults = of_ok c.attach.result _ _ (ok_before _ _ _ _ c.map_err.ensures.cases c.in_ok-map_err.was) c.attach.ensures.call.cause.ok in
-    begun_given a d e _ (length-line_text 0 _) (c.boot.ensures.rest.streams ∙ c.attach.ensures.call.streams) (quiet.device ∙ attached) (c.in_ok-give_answer.ensures.gave t)
-
-pub returns-in_err-map_err-clause-told : goal.returns-in_err-map_err-clause-told
-returns-in_err-map_err-clause-told g c = λ t. tells_none (g.H.Host.view c.args.host.now) (g.H.Host.view c.attach.new.self) (ap (λ (s : Streams). s.stamps) c.attach.ensures.call.streams)
-
-pub returns-in_err-manager-clause-told : goal.returns-in_err-manager-clause-told
-returns-in_err-manager-clause-told g c = λ t.
-    tells_none (g.H.Host.view c.args.host.now) (g.H.Host.view c.boot.new.host) (ap (λ (s : Streams). s.stamps) (c.boot.ensures.rest.streams ∙ c.attach.ensures.call.streams))
-
-pub returns-in_err-give_answer-clause-told : goal.returns-in_err-give_answer-clause-told
-returns-in_err-give_answer-clause-told g c = λ t.
-    tells_given (g.H.Host.view c.args.host.now) (g.H.Host.view c.boot.new.host) (g.H.Host.view c.give_answer.new.host) (c.boot.ensures.rest.streams ∙ c.attach.ensures.call.streams) (c.give_answer.ensures.some t).0 _ (c.give_answer.ensures.some t).1
-
-pub returns-clause-told : goal.returns-clause-told
-returns-clause-told g c = λ t.
-    tells_given (g.H.Host.view c.args.host.now) (g.H.Host.view c.boot.new.host) (g.H.Host.view c.give_answer.new.host) (c.boot.ensures.rest.streams ∙ c.attach.ensures.call.streams) (c.give_answer.ensures.some t).0 _ (c.give_answer.ensures.some t).1
-
-pub returns-in_err-map_err-clause-left_alone : goal.returns-in_err-map_err-clause-left_alone
-returns-in_err-map_err-clause-left_alone g c = λ t none. alone_attached (g.H.Host.view c.args.host.now) (g.H.Host.view c.attach.new.self) c.attach.result c.attach.ensures.call c.attach.ensures.attached
+    begun_given a d e _ (length-line_text 0 _) (c.boot.ensures.rest.streams ∙ c.attach.ensures.call.streams) (c.in_ok-manager.ensures.failed ∙ c.in_ok-attach.ensures.call.cause.ok) (c.in_ok-give_answer.ensures.gave t)
 
 pub returns-in_err-manager-clause-left_alone : goal.returns-in_err-manager-clause-left_alone
 returns-in_err-manager-clause-left_alone g c = λ t none.
@@ -147,26 +115,10 @@ returns-in_err-manager-clause-left_alone g c = λ t none.
     alone_on a b (g.H.Host.view c.boot.new.host) (alone_attached a b c.attach.result c.attach.ensures.call c.attach.ensures.attached)
     (c.boot.ensures.left_alone t (ap is_bootable (same_found b.reads a.reads (c.attach.ensures.attached.reads 0)) ∙ none))
 
-pub returns-in_err-give_answer-clause-left_alone : goal.returns-in_err-give_answer-clause-left_alone
-returns-in_err-give_answer-clause-left_alone g c = λ t none.
-    contradicts _ (was_bootable c.in_ok-manager.manager (g.H.Host.view c.args.host.now) (g.H.Host.view c.attach.new.self) (g.H.Host.view c.boot.new.host) (c.attach.ensures.attached.reads 0) (c.in_ok-manager.ensures.booted t)) none
-
-pub returns-clause-left_alone : goal.returns-clause-left_alone
-returns-clause-left_alone g c = λ t none.
-    contradicts _ (was_bootable c.in_ok-manager.manager (g.H.Host.view c.args.host.now) (g.H.Host.view c.attach.new.self) (g.H.Host.view c.boot.new.host) (c.attach.ensures.attached.reads 0) (c.in_ok-manager.ensures.booted t)) none
-
-pub returns-in_err-map_err-clause-attached : goal.returns-in_err-map_err-clause-attached
-returns-in_err-map_err-clause-attached g c = λ t.
-    attached_none (c.args.path.now ∷ []) (g.H.Host.view c.args.host.now) (g.H.Host.view c.attach.new.self) (ap (λ (s : Streams). s.stamps) c.attach.ensures.call.streams)
-
-pub returns-in_err-manager-clause-attached : goal.returns-in_err-manager-clause-attached
-returns-in_err-manager-clause-attached g c = λ t.
-    attached_none (c.args.path.now ∷ []) (g.H.Host.view c.args.host.now) (g.H.Host.view c.boot.new.host) (ap (λ (s : Streams). s.stamps) (c.boot.ensures.rest.streams ∙ c.attach.ensures.call.streams))
-
 pub returns-in_err-give_answer-clause-attached : goal.returns-in_err-give_answer-clause-attached
 returns-in_err-give_answer-clause-attached g c = λ t.
     let d = g.H.Host.view c.boot.new.host in
-    let own = of_ok c.attach.result _ _ (ok_before _ _ _ _ c.map_err.ensures.cases c.in_ok-map_err.was) c.attach.ensures.attached.own t in
+    let own = c.in_ok-attach.ensures.attached.own t in
     let some = c.give_answer.ensures.some t in
     attached_given (c.args.path.now ∷ []) (g.H.Host.view c.args.host.now) d (g.H.Host.view c.give_answer.new.host) some.0 _ (c.boot.ensures.rest.streams ∙ c.attach.ensures.call.streams)
     (one_attached c.args.path.now d.attached (ap (λ (f : ℕ → Option (List ℕ)). f 0) c.boot.ensures.rest.attached ∙ own)) some.1
@@ -174,7 +126,15 @@ returns-in_err-give_answer-clause-attached g c = λ t.
 pub returns-clause-attached : goal.returns-clause-attached
 returns-clause-attached g c = λ t.
     let d = g.H.Host.view c.boot.new.host in
-    let own = of_ok c.attach.result _ _ (ok_before _ _ _ _ c.map_err.ensures.cases c.in_ok-map_err.was) c.attach.ensures.attached.own t in
+    let own = c.in_ok-attach.ensures.attached.own t in
     let some = c.give_answer.ensures.some t in
     attached_given (c.args.path.now ∷ []) (g.H.Host.view c.args.host.now) d (g.H.Host.view c.give_answer.new.host) some.0 _ (c.boot.ensures.rest.streams ∙ c.attach.ensures.call.streams)
     (one_attached c.args.path.now d.attached (ap (λ (f : ℕ → Option (List ℕ)). f 0) c.boot.ensures.rest.attached ∙ own)) some.1
+
+pub returns-in_err-attach-clause-attached : goal.returns-in_err-attach-clause-attached
+returns-in_err-attach-clause-attached g c = λ t.
+    attached_none (c.args.path.now ∷ []) (g.H.Host.view c.args.host.now) (g.H.Host.view c.attach.new.self) (ap (λ (s : Streams). s.stamps) c.attach.ensures.call.streams)
+
+pub returns-in_err-manager-clause-attached : goal.returns-in_err-manager-clause-attached
+returns-in_err-manager-clause-attached g c = λ t.
+    attached_none (c.args.path.now ∷ []) (g.H.Host.view c.args.host.now) (g.H.Host.view c.boot.new.host) (ap (λ (s : Streams). s.stamps) (c.boot.ensures.rest.streams ∙ c.attach.ensures.call.streams))

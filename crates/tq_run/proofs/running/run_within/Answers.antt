@@ -1,32 +1,34 @@
 use Rattle.std.proofs.Common.{◌≡◌, Some, List, ℕ, ◌⊎◌, ◌∙◌, subst, sym, refl, Err, Result, [], ◌∷◌, ap}
 use Rattle.std.specs.Option.{option_copied}
 use Rattle.tq_host.specs.Calls.{HasCauseOf}
-use Rattle.tq_host.proofs.Running.{ran_start}
+use Rattle.tq_host.proofs.RunLemmas.{ran_start}
 use Rattle.tq_model.specs.declared.request.Request.TheVariants.{Boot}
 use Rattle.tq_model.specs.Grammar.{script_requests}
 use Rattle.tq_run.specs.declared.status.Status.{Status}
 use Rattle.tq_run.specs.declared.status.Status.TheVariants as status
 use Rattle.tq_run.specs.declared.status.RunEnd.{RunEnd}
 use Rattle.tq_run.specs.declared.status.RunEnd.TheVariants.{Device}
-use Rattle.tq_run.specs.Counts.{RoseDevice, HasRunCounts}
+use Rattle.tq_run.specs.Counts.{RoseDevice, HasRunCounts, itself}
 use Rattle.tq_run.specs.Ending.{IsComplete, status_for}
 use Rattle.tq_run.specs.Turns.{IsOfLines, RunsOver, none_failed, origin_of}
 use Rattle.tq_run.proofs.Line0Lemmas.{calm_none}
-use Rattle.tq_run.proofs.CountLemmas.{read_cause, write_cause}
+use Rattle.tq_run.proofs.CountLemmas.{some_is, read_cause, write_cause}
 use Rattle.tq_run.proofs.LineByLineLemmas.{on_none, is_safe}
-use Rattle.tq_run.proofs.StatusLemmas.{not_risen, damaged_always, complete, done, is_device}
+use Rattle.tq_run.proofs.StatusLemmas.{blames_first, is_damaged_at, damaged_always, complete, done, is_device}
 use Rattle.tq_run.proofs.TurnLemmas.{starts_answered}
 use Rattle.tq_run.specs.Output.{BeginsAttached}
-use Rattle.tq_run.proofs.LeftAloneLemmas.{is_left_alone, alone_start, attached_none}
+use Rattle.tq_run.proofs.LeftAloneLemmas.{contradicts, is_left_alone, alone_start, attached_none}
 use Rattle.tq_run.proofs.running.run_within.Goals as goal
-
-same_path : (x y : List ℕ) → Some x ≡ Some y → x ≡ y
-same_path x y e = cc
 
 pub returns-in-None-clause-line_0 : goal.returns-in-None-clause-line_0
 returns-in-None-clause-line_0 g c = λ t added is rose.
     let v = g.H.Host.view c.args.host.now in
-    not_risen v v added rose (calm_none v v refl refl added is)
+    contradicts _ rose (calm_none v v refl refl added is)
+
+pub returns-in-Some-clause-damaged : goal.returns-in-Some-clause-damaged
+returns-in-Some-clause-damaged g c = λ d e.
+    let is = is_damaged_at c.attend.result d (sym c.status_of.ensures ∙ e) in
+    record { first = is.1 ∙ sym (blames_first (g.H.Host.view c.args.host.now).reads); cause = c.attend.ensures.damaged is.0; untouched = c.attend.ensures.untouched is.0 }
 
 pub returns-in-Some-clause-damaged_always : goal.returns-in-Some-clause-damaged_always
 returns-in-Some-clause-damaged_always g c = λ usage t none calm.
@@ -49,7 +51,7 @@ returns-in-Some-clause-device_fault g c = λ is.
     let old = g.H.Host.view c.args.host.now in
     let new = g.H.Host.view c.attend.new.host in
     let failed : c.attend.result ≡ Err Device = is_device c.attend.result (sym c.status_of.ensures ∙ is) in
-    let rose : RoseDevice old new = subst (λ (r : Result (Unit {0}) RunEnd). HasRunCounts r old new) failed c.attend.ensures.counts in
+    let rose : RoseDevice old new = subst (λ (r : Result (Unit {0}) RunEnd). HasRunCounts itself r old new) failed c.attend.ensures.counts in
     (rose.device.rose, c.attend.ensures.silent failed)
 
 pub returns-in-Some-clause-line_0 : goal.returns-in-Some-clause-line_0
@@ -102,4 +104,4 @@ returns-in-None-clause-attached g c = λ t path is.
 pub returns-in-Some-clause-attached : goal.returns-in-Some-clause-attached
 returns-in-Some-clause-attached g c = λ t path is.
     let word : Some c.in-Some.path.now ≡ Some path = ap option_copied (sym c.in-Some.is) ∙ c.device_path.ensures ∙ is in
-    subst (λ (l : List ℕ). BeginsAttached (l ∷ []) (g.H.Host.view c.args.host.now) (g.H.Host.view c.attend.new.host)) (same_path _ _ word) (c.attend.ensures.attached t)
+    subst (λ (l : List ℕ). BeginsAttached (l ∷ []) (g.H.Host.view c.args.host.now) (g.H.Host.view c.attend.new.host)) (some_is _ _ word) (c.attend.ensures.attached t)

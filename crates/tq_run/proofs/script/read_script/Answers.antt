@@ -1,5 +1,5 @@
 use Rattle.std.proofs.Common.{rules}
-use Rattle.tq_host.proofs.Running.{ran_start}
+use Rattle.tq_host.proofs.RunLemmas.{ran_start}
 use Rattle.tq_run.specs.Stops.{IsWaiting}
 use Rattle.tq_run.proofs.PictureLemmas.{waits_on, no_new_on}
 use Rattle.tq_run.proofs.script.read_script.Goals as goal
@@ -29,17 +29,3 @@ loop-left-preserved g c =
       images = no_new_on a b d c.loop-left.invariant.images c.take_some.ensures.images;
       quiet = search rules;
     }
-
-pub returns-in_err-n-clause-waits : goal.returns-in_err-n-clause-waits
-returns-in_err-n-clause-waits g c =
-    waits_on (g.H.Host.view c.args.host.now) (g.H.Host.view c.loop-left.host) (g.H.Host.view c.take_some.new.host) c.loop-left.invariant.waits c.loop-left.invariant.images c.loop-left.invariant.still.output c.take_some.ensures.waits
-
-pub returns-in_err-n-clause-images : goal.returns-in_err-n-clause-images
-returns-in_err-n-clause-images g c = no_new_on (g.H.Host.view c.args.host.now) (g.H.Host.view c.loop-left.host) (g.H.Host.view c.take_some.new.host) c.loop-left.invariant.images c.take_some.ensures.images
-
-pub returns-then-n-eq0-clause-waits : goal.returns-then-n-eq0-clause-waits
-returns-then-n-eq0-clause-waits g c =
-    waits_on (g.H.Host.view c.args.host.now) (g.H.Host.view c.loop-left.host) (g.H.Host.view c.take_some.new.host) c.loop-left.invariant.waits c.loop-left.invariant.images c.loop-left.invariant.still.output c.take_some.ensures.waits
-
-pub returns-then-n-eq0-clause-images : goal.returns-then-n-eq0-clause-images
-returns-then-n-eq0-clause-images g c = no_new_on (g.H.Host.view c.args.host.now) (g.H.Host.view c.loop-left.host) (g.H.Host.view c.take_some.new.host) c.loop-left.invariant.images c.take_some.ensures.images

@@ -58,9 +58,6 @@ returns-in_err-serve_line-clause-stop g c = λ t o found failed first reached.
     (requests_first rest line behind c.in-Some.ensures.lines) (c.serve_line.ensures.told t.output) (inv.told t.output)
     (c.serve_line.ensures.stop t o found so_far.run.since (first ∷ so_far.done) so_far.count so_far.run.reached)
 
-pub returns-in_err-serve_line-clause-told : goal.returns-in_err-serve_line-clause-told
-returns-in_err-serve_line-clause-told g c = λ t. tells_on (g.H.Host.view c.args.host.now) (g.H.Host.view c.loop-line.host) (g.H.Host.view c.serve_line.new.host) (c.loop-line.invariant.told t) (c.serve_line.ensures.told t)
-
 pub returns-clause-stop : goal.returns-clause-stop
 returns-clause-stop g c = λ t o found failed first reached.
     let start = g.H.Host.view c.args.host.now in

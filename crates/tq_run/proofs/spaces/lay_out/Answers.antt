@@ -5,11 +5,11 @@ use Rattle.tq_device.specs.Content.{IsAnyStep}
 use Rattle.tq_spacefile.specs.File.{IsFormatted}
 use Rattle.tq_spacefile.specs.Place.{space_end}
 use Rattle.tq_run.specs.Spaces.{IsBareOrNew}
-use Rattle.tq_run.proofs.CountLemmas.{if_ok, of_ok}
-use Rattle.tq_device.proofs.Offered.{below_stands}
+use Rattle.tq_run.proofs.CountLemmas.{if_ok}
+use Rattle.tq_device.proofs.ForCallers.{below_stands}
 use Rattle.tq_device.proofs.Longer.{longer_stands}
-use Rattle.tq_run.proofs.SpaceCreationLemmas.{growing, preparing, entering, still_bare, settled_all, formatted_kept}
-use Rattle.tq_run.proofs.DeviceStopLemmas.{any_steps}
+use Rattle.tq_run.proofs.SpaceCreationLemmas.{any_steps, growing, preparing, entering, still_bare, formatted_kept}
+use Rattle.tq_run.proofs.DeviceStopLemmas.{settled_all}
 use Rattle.tq_run.proofs.spaces.lay_out.Goals as goal
 
 pub returns-in_err-grow-clause-stop : goal.returns-in_err-grow-clause-stop
@@ -44,7 +44,7 @@ returns-clause-done g c = if_ok c.enter.result _ (λ x ok. λ t.
     let shape = c.args.shape.now in
     let grown = c.in_ok-grow.ensures.done t in
     let laid = c.in_ok-format.ensures.kept t in
-    let kept = of_ok c.enter.result x _ ok c.enter.ensures.kept t in
+    let kept = IfOk-at_ok _ ok c.enter.ensures.kept t in
     record {
       stands = IfOk-at_ok _ ok c.enter.ensures.done t;
       formatted = formatted_kept shape _ _ kept.size (λ k le. kept.bytes k (inr (omega arith)) (inr (omega arith))) (c.in_ok-format.ensures.done t);
@@ -56,15 +56,10 @@ returns-clause-stop g c = λ stand.
     let d = c.args.content.now in
     let name = c.args.name in
     let shape = c.args.shape.now in
-    let old = g.H.Host.view c.args.host.now in
     let first = c.in_ok-grow.ensures.done in
     let long = settled_all (λ image. space_end shape.pages ≤ length image) _ (g.met.H.Host.lawful c.grow.new.host) c.in_ok-grow.ensures.settled (λ t. omega (arith, (first t).1, c.clusters_for.ensures, c.from.ensures)) in
     let both = preparing d name shape _ _ _ c.requires.bare stand c.grow.ensures.stop (c.format.ensures.stop long) in
-    let laid = c.in_ok-format.ensures.kept in
-    let lawful = g.met.H.Host.lawful c.format.new.host in
-    let settled = c.in_ok-format.ensures.settled in
-    let pages = settled_all (IsFormatted shape) _ lawful settled c.in_ok-format.ensures.done in
-    let reach = settled_all (λ image. space_end shape.pages ≤ length image) _ lawful settled (λ t. omega (arith, (first t).1, (laid t).size, c.clusters_for.ensures, c.from.ensures)) in
-    in_a_row 0 IsAnyStep any_steps (IsBareOrNew d name shape) old _ _ (still_bare d name shape _ _ both)
-    (entering d name shape _ _ (λ image may. (pages image may, reach image may))
-    (c.enter.ensures.stop (λ image may. ((both.own image may).now, reach image may))))
+    let made = settled_all (λ image. IsFormatted shape image × (space_end shape.pages ≤ length image)) _ (g.met.H.Host.lawful c.format.new.host) c.in_ok-format.ensures.settled
+    (λ t. (c.in_ok-format.ensures.done t, omega (arith, (first t).1, (c.in_ok-format.ensures.kept t).size, c.clusters_for.ensures, c.from.ensures))) in
+    in_a_row 0 IsAnyStep any_steps (IsBareOrNew d name shape) _ _ _ (still_bare d name shape _ _ both)
+    (entering d name shape _ _ made (c.enter.ensures.stop (λ image may. ((both.own image may).now, (made image may).1))))

@@ -1,9 +1,10 @@
-use Rattle.std.proofs.Common.{◌∙◌, sym, ap, subst, List, ℕ, arith}
+use Rattle.std.proofs.Common.{Some, ◌∙◌, sym, ap, subst, arith}
 use Rattle.tq_model.specs.declared.space.Shape.{Shape}
-use Rattle.tq_run.specs.Spaces.{IsShape, HasNewSpace}
+use Rattle.tq_run.specs.Manager.{IsContentOn}
+use Rattle.tq_run.specs.Spaces.{IsShape}
 use Rattle.tq_run.proofs.FoundLemmas.{content_stands}
-use Rattle.tq_run.proofs.DeviceStopLemmas.{reads_on}
-use Rattle.tq_run.proofs.SpaceCreationLemmas.{is_shape, making, new_answer, site_granted, new_site_of, new_file_on}
+use Rattle.tq_run.proofs.DeviceStopLemmas.{reads_on, settled_all}
+use Rattle.tq_run.proofs.SpaceCreationLemmas.{is_shape, making, space_differs, new_answer, site_granted, new_site_of, new_file_on}
 use Rattle.tq_run.proofs.spaces.make_space.Goals as goal
 
 pub lay_out-requires-clause-shape : goal.lay_out-requires-clause-shape
@@ -15,14 +16,13 @@ lay_out-requires-clause-holds g c = λ t.
     content_stands m c.args.content.now _ c.requires.admitted.content (reads_on m _ (g.met.H.Host.lawful c.args.host.now) t c.requires.on)
 
 pub returns-in_err-entered-clause-stop : goal.returns-in_err-entered-clause-stop
-returns-in_err-entered-clause-stop g c = record {
-  attached = c.lay_out.ensures.rest.attached;
-  within =
-      let m = c.args.manager.now in
-      let d = c.args.content.now in
-      making c.args.creation.now m d c.requires.admitted c.shape_of-shape.result _ _ c.shape_of-shape.ensures
-      (c.lay_out.ensures.stop (λ image may. content_stands m d image c.requires.admitted.content (c.requires.on image may)));
-}
+returns-in_err-entered-clause-stop g c = making c.args.creation.now c.args.manager.now c.args.content.now c.requires.admitted c.shape_of-shape.result _ _ c.shape_of-shape.ensures c.requires.on c.lay_out.ensures.rest c.lay_out.ensures.stop
+
+pub returns-in_err-entered-clause-idle : goal.returns-in_err-entered-clause-idle
+returns-in_err-entered-clause-idle g c = λ same. absurd (space_differs c.args.creation.now c.args.manager.now c.args.content.now c.requires.admitted same)
+
+pub returns-clause-idle : goal.returns-clause-idle
+returns-clause-idle g c = λ same. absurd (space_differs c.args.creation.now c.args.manager.now c.args.content.now c.requires.admitted same)
 
 pub new-requires-clause-most : goal.new-requires-clause-most
 new-requires-clause-most g c =
@@ -30,14 +30,7 @@ new-requires-clause-most g c =
     omega (arith, ap (λ (s : Shape). s.pages) c.shape_of-shape.ensures, shape.pages.1)
 
 pub returns-clause-stop : goal.returns-clause-stop
-returns-clause-stop g c = record {
-  attached = c.lay_out.ensures.rest.attached;
-  within =
-      let m = c.args.manager.now in
-      let d = c.args.content.now in
-      making c.args.creation.now m d c.requires.admitted c.shape_of-shape.result _ _ c.shape_of-shape.ensures
-      (c.lay_out.ensures.stop (λ image may. content_stands m d image c.requires.admitted.content (c.requires.on image may)));
-}
+returns-clause-stop g c = making c.args.creation.now c.args.manager.now c.args.content.now c.requires.admitted c.shape_of-shape.result _ _ c.shape_of-shape.ensures c.requires.on c.lay_out.ensures.rest c.lay_out.ensures.stop
 
 pub returns-clause-served : goal.returns-clause-served
 returns-clause-served g c =
@@ -51,9 +44,6 @@ returns-clause-served g c =
       site = new_site_of d e creation.name shape c.new.result m.next c.in_ok-entered.ensures.entered c.new.ensures.held c.new.ensures.logged
           ∙ site_granted creation m d c.requires.admitted shape c.shape_of-shape.ensures;
       next = omega arith;
-      images = λ image may.
-          let lawful = g.met.H.Host.lawful c.lay_out.new.host in
-          let told = lawful.reads_told (lawful.stops_told 0 image may) in
-          new_file_on d e creation.name shape c.new.result m.next c.in_ok-entered.ensures.entered c.new.ensures.held c.new.ensures.place c.new.ensures.on image
-          (subst (λ (l : List ℕ). HasNewSpace e shape l) (sym (c.in_ok-entered.ensures.settled image may)) (c.in_ok-entered.ensures.done told));
+      images = settled_all (IsContentOn (Some e) (Some c.new.result) m.next) _ (g.met.H.Host.lawful c.lay_out.new.host) c.in_ok-entered.ensures.settled
+          (λ t. new_file_on d e creation.name shape c.new.result m.next c.in_ok-entered.ensures.entered c.new.ensures.held c.new.ensures.place c.new.ensures.on _ (c.in_ok-entered.ensures.done t));
     }

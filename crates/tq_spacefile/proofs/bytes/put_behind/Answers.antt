@@ -1,6 +1,6 @@
 use Rattle.std.proofs.Common.{ℕ, List, length, get_or, ap, ◌∙◌}
 use Rattle.tq_field.specs.Places.{with_run}
-use Rattle.tq_gate.proofs.Stretches.{put_mid-with_run}
+use Rattle.tq_gate.proofs.RangeLemmas.{put_mid-with_run}
 use Rattle.tq_spacefile.proofs.Places.{put_behind}
 use Rattle.tq_spacefile.proofs.bytes.put_behind.Goals as goal
 

@@ -2,7 +2,7 @@ use Rattle.std.proofs.Common.{◌≡◌, ◌+◌, ◌-◌, ℕ, List, length, su
 use Rattle.tq_gate.specs.Frame.{payload_in}
 use Rattle.tq_gate.specs.Log.{IsOpen, added}
 use Rattle.tq_gate.proofs.FrameLemmas.{length-payload_in}
-use Rattle.tq_gate.proofs.Staging.{both_pieces, keeps_old, images_too}
+use Rattle.tq_gate.proofs.StageLemmas.{both_pieces, keeps_old, images_too}
 use Rattle.tq_gate.proofs.log.GateLog.append.Goals as goal
 
 pub returns-in_err-stage-clause-stop : goal.returns-in_err-stage-clause-stop

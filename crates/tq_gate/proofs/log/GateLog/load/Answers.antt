@@ -1,6 +1,6 @@
 use Rattle.std.proofs.Common.{◌∙◌}
 use Rattle.tq_host.specs.View.{View}
-use Rattle.tq_gate.proofs.Opening.{IsRead, is_read, opened_is, refused_is}
+use Rattle.tq_gate.proofs.OpenGateLemmas.{IsRead, is_read, opened_is, refused_is}
 use Rattle.tq_gate.proofs.log.GateLog.load.Goals as goal
 
 pub returns-clause-loaded : goal.returns-clause-loaded

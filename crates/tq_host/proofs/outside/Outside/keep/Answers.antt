@@ -1,6 +1,6 @@
 use Rattle.std.proofs.Common.{sym, ◌∙◌, ap, subst, length-set}
 use Rattle.tq_host.specs.Events.{State, blank, replay, events_of, IsFine}
-use Rattle.tq_host.proofs.Replaying.{after_call, shows_next}
+use Rattle.tq_host.proofs.ReplayLemmas.{after_call, shows_next}
 use Rattle.tq_host.proofs.outside.Outside.keep.Goals as goal
 
 pub invariant_of-self-2 : goal.invariant_of-self-2

@@ -1,7 +1,7 @@
 use Rattle.std.proofs.Common.{◌≡◌, ◌++◌, ℕ, List, rules, sym, ◌∙◌, ap, subst}
 use Rattle.tq_host.specs.declared.call.Call.TheVariants.{Give}
 use Rattle.tq_host.specs.Events.{State, blank, replay, events_of, IsFine}
-use Rattle.tq_host.proofs.Replaying.{after_call}
+use Rattle.tq_host.proofs.ReplayLemmas.{after_call}
 use Rattle.tq_host.proofs.outside.Outside.keep_give.Goals as goal
 
 pub invariant_of-self-2 : goal.invariant_of-self-2

@@ -1,7 +1,7 @@
 use Rattle.std.proofs.Common.{◌+◌, sym, ◌∙◌, ap, subst, arith}
 use Rattle.tq_host.specs.declared.call.Call.TheVariants.{Take}
 use Rattle.tq_host.specs.Events.{State, IsFine}
-use Rattle.tq_host.proofs.Replaying.{after_call}
+use Rattle.tq_host.proofs.ReplayLemmas.{after_call}
 use Rattle.tq_host.proofs.outside.Outside.keep_take.Goals as goal
 
 pub invariant_of-self-2 : goal.invariant_of-self-2

@@ -3,7 +3,7 @@ use Rattle.std.specs.declared.alloc.Global.{Global}
 use Rattle.tq_host.specs.Disk.{overwrite, written}
 use Rattle.tq_host.specs.Events.{blank, replay, events_of, write}
 use Rattle.tq_host.proofs.Images.{written_fine}
-use Rattle.tq_host.proofs.Replaying.{leads}
+use Rattle.tq_host.proofs.ReplayLemmas.{leads}
 use Rattle.tq_host.proofs.outside.Outside.keep_write.Goals as goal
 
 pub keep-requires-clause-leads : goal.keep-requires-clause-leads

@@ -2,7 +2,7 @@ use Rattle.std.proofs.Common.{◌≡◌, ◌<◌, List, ◌++◌, [], ◌∷◌,
 use Rattle.tq_host.specs.declared.call.Call.{Call}
 use Rattle.tq_host.specs.View.{last_count}
 use Rattle.tq_host.specs.Events.{State, blank, replay, events_of, LeavesAll}
-use Rattle.tq_host.proofs.Replaying.{after_call, either}
+use Rattle.tq_host.proofs.ReplayLemmas.{after_call, either}
 use Rattle.tq_host.proofs.outside.Outside.note.Goals as goal
 
 pub invariant_of-self : goal.invariant_of-self

@@ -1,7 +1,7 @@
 use Rattle.std.proofs.Common.{◌≡◌, ℕ, List, sym, ap, ◌∙◌, subst, Some, None, option_map}
 use Rattle.std.specs.Str.{bytes_eq}
 use Rattle.std.specs.List.{position, find}
-use Rattle.tq_model.specs.Moves.{IndexedQueue, entry_view}
+use Rattle.tq_model.specs.Moves.{IndexedQueue, entry_view, session_owners}
 use Rattle.tq_model.specs.DequeueStep.{can_answer}
 use Rattle.tq_space.specs.declared.shelf.HeldQueue.{HeldQueue}
 use Rattle.tq_space.specs.State.{ShelfValue}
@@ -52,7 +52,7 @@ returns c =
     let key = c.index-key.result.now in
     let spot : position keyed d.keys.items ≡ Some place = sym (c.in-Some-place_answering.ensures ∙ ap (position keyed) c.deref-2.ensures.value) in
     record {
-      entry = ap (option_map entry_view) c.get.ensures
+      entry = ap (option_map (entry_view session_owners)) c.get.ensures
           ∙ answer_at slots queues c.self.invariant.listed (can_answer c.args.call.now c.args.clock) c.in-Some.at d c.index-queue.ensures (position-found test queues c.in-Some.at found).1 place key spot c.index-key.ensures
           ∙ sym (ap (answer_in c.args.call.now c.args.clock) (subst (λ (l : List IndexedQueue). find (indexed_named c.args.call.now.queue) l ≡ Some (indexed_at slots d)) view at_d));
     }

@@ -1,6 +1,6 @@
 use Rattle.std.proofs.Common.{◌≡◌, ℕ, ◌-◌, ◌==◌, refl, sym, ap, ◌∙◌, arith, Some, None}
 use Rattle.std.specs.List.{position, position_or_len, list_any, insert}
-use Rattle.tq_model.specs.Moves.{entry_view, entry_inserted, has_index}
+use Rattle.tq_model.specs.Moves.{entry_view, entry_inserted, has_index, session_owners}
 use Rattle.tq_space.specs.declared.shelf.HeldQueue.{HeldQueue}
 use Rattle.tq_space.specs.State.{ShelfValue}
 use Rattle.tq_space.specs.Slots.{slot_at, slot_test, label_before}
@@ -65,4 +65,4 @@ returns-clause-queues c =
     let is_place : place ≡ position_or_len test d.keys.items = c.place_for-place.ensures ∙ ap (position_or_len test) c.deref-in-Some.ensures.value in
     let keyed : IsRekeyed d q' (insert d.keys.items place key) = record { index = refl; def = refl; keys_are = c.put_key.ensures.items } in
     inserted_seen slots slots' queues c.self.invariant.listed at d c.index_mut-queue.ensures.value q' key place entry c.insert_reserved-key.ensures.updates.others c.insert_reserved-key.ensures.was_vacant c.insert_reserved-key.ensures.updates.changed keyed c.requires.plain found is_place
-    ∙ ap (λ (v : ShelfValue). entry_inserted entry.queue (entry_view entry) v.queues) c.self.view_is
+    ∙ ap (λ (v : ShelfValue). entry_inserted entry.queue (entry_view session_owners entry) v.queues) c.self.view_is

@@ -2,7 +2,7 @@ use Rattle.std.proofs.Common.{◌≡◌, ℕ, true, false, List, refl, sym, ap, 
 use Rattle.std.specs.Prelude.{is_some}
 use Rattle.std.specs.List.{position, remove}
 use Rattle.tq_model.specs.Space.{has_id}
-use Rattle.tq_model.specs.Moves.{entry_view, entry_removed, entry_with_id, IndexedQueue}
+use Rattle.tq_model.specs.Moves.{entry_view, entry_removed, entry_with_id, IndexedQueue, session_owners}
 use Rattle.tq_space.specs.declared.shelf.HeldQueue.{HeldQueue}
 use Rattle.tq_space.specs.State.{ShelfValue}
 use Rattle.tq_space.specs.Slots.{slot_at, slot_test}
@@ -106,5 +106,5 @@ returns-clause-entry c =
     let holds : position mark queues ≡ Some at = sym (c.in-Some.ensures ∙ ap (position mark) c.deref.ensures.value) in
     let found : position test d.keys.items ≡ Some place = sym (c.in-Some-place_of_id.ensures ∙ ap (position test) c.deref-2.ensures.value) in
     let keyed : IsRekeyed d q' (remove d.keys.items place) = record { index = refl; def = refl; keys_are = c.remove-key.ensures.items } in
-    ap (option_map entry_view) c.try_remove.ensures.value ∙ removed_entry slots slots' queues c.self.invariant.listed at d c.index_mut-queue.ensures.value q' place key c.remove-key.ensures.value id c.try_remove.ensures.updates.others c.try_remove.ensures.updates.changed keyed holds found
+    ap (option_map (entry_view session_owners)) c.try_remove.ensures.value ∙ removed_entry slots slots' queues c.self.invariant.listed at d c.index_mut-queue.ensures.value q' place key c.remove-key.ensures.value id c.try_remove.ensures.updates.others c.try_remove.ensures.updates.changed keyed holds found
     ∙ ap (λ (v : ShelfValue). entry_with_id id v.queues) c.self.view_is

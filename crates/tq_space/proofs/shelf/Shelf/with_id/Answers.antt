@@ -2,7 +2,7 @@ use Rattle.std.proofs.Common.{◌≡◌, ℕ, true, false, List, sym, ap, ◌∙
 use Rattle.std.specs.Prelude.{is_some}
 use Rattle.std.specs.List.{position}
 use Rattle.tq_model.specs.Space.{has_id}
-use Rattle.tq_model.specs.Moves.{entry_view, entry_with_id, IndexedQueue}
+use Rattle.tq_model.specs.Moves.{entry_view, entry_with_id, IndexedQueue, session_owners}
 use Rattle.tq_space.specs.declared.shelf.HeldQueue.{HeldQueue}
 use Rattle.tq_space.specs.State.{ShelfValue}
 use Rattle.tq_space.specs.Slots.{slot_at, slot_test}
@@ -47,7 +47,7 @@ returns c =
     let found : position test d.keys.items ≡ Some c.in-Some-place_of_id.place = sym (c.in-Some-place_of_id.ensures ∙ ap (position test) c.deref-2.ensures.value) in
     record {
       entry =
-          ap (option_map entry_view) c.get.ensures
+          ap (option_map (entry_view session_owners)) c.get.ensures
           ∙ entry_at_id slots queues c.self.invariant.listed id c.in-Some.at d c.index-queue.ensures holds c.in-Some-place_of_id.place c.index-key.result.now found c.index-key.ensures
           ∙ ap (λ (v : ShelfValue). entry_with_id id v.queues) c.self.view_is;
     }

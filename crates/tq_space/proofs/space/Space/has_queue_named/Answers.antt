@@ -6,7 +6,7 @@ use Rattle.tq_space.specs.State.{SpaceState}
 use Rattle.tq_space.specs.Reads.{indexed_named}
 use Rattle.tq_space.specs.Reading.{named_of}
 use Rattle.tq_space.proofs.Counts.{any-find}
-use Rattle.tq_space.proofs.Taken.{some_mapped}
+use Rattle.tq_space.proofs.OptionLemmas.{some_mapped}
 use Rattle.tq_space.proofs.space.Space.has_queue_named.Goals as goal
 
 pub returns : goal.returns

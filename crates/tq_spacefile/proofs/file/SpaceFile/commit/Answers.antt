@@ -49,11 +49,17 @@ returns-in_err-append-clause-stop g c = λ epoch ready.
 pub returns-in_err-append-clause-failed : goal.returns-in_err-append-clause-failed
 returns-in_err-append-clause-failed g c =
     let f = c.args.self.now in
+    let is = said (held_in f) c.args.plan c.requires.loggable in
+    let spelt_there = c.in_ok-frame.ensures.payload is.r is.is in
     let before = g.H.Host.view c.args.host.now in
     let after = g.H.Host.view c.append.new.host in
     at_error c.from_residual-in_err-append.result commit_error.Device _ c.from_residual-in_err-append.ensures.1
     (record {
-      cause = (c.in_err-append.ensures.cause.later, c.in_err-append.ensures.cause.failed);
+      cause = (
+        c.in_err-append.ensures.cause.later,
+        c.in_err-append.ensures.cause.failed,
+        has_room f c.args.plan is (length (payload_in c.in_ok-frame.frame.items)) c.in_ok-frame.ensures.fits (is.size ∙ sym (ap length spelt_there.spells)),
+      );
       same = same_file f _ refl c.prepare.ensures.held c.in_err-append.ensures.same;
       rest = subst (λ n. KeepsRest n before after) (own_dev f) c.append.ensures.rest;
     })

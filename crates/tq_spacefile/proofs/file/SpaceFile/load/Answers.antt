@@ -4,7 +4,7 @@ use Rattle.tq_gate.specs.declared.layout.Layout.{Layout}
 use Rattle.tq_gate.specs.Loaded.{content_of}
 use Rattle.tq_gate.specs.Log.{IsLog}
 use Rattle.tq_gate.specs.Reading.{content}
-use Rattle.tq_gate.proofs.Quieting.{quiet_on}
+use Rattle.tq_gate.proofs.ReadOnlyLemmas.{quiet_on}
 use Rattle.tq_spacefile.specs.declared.fault.FileError.{FileError}
 use Rattle.tq_spacefile.specs.declared.fault.FileError.TheVariants.{Damaged, Device}
 use Rattle.tq_spacefile.specs.declared.file.SpaceFile.{SpaceFile}

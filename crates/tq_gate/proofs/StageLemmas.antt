@@ -19,7 +19,7 @@ use Rattle.tq_gate.specs.Reading.{Content, content, log_in, IsRecord}
 use Rattle.tq_field.specs.GatedLog.{end_of}
 use Rattle.tq_gate.specs.Frame.{behind_gate}
 use Rattle.tq_gate.specs.Log.{IsOpen, IsLog, AreLog, HaveLog, added, IsSameButIn, IsSameButLog, IsStagedIn, IsStaged, AreStagedOver, IsKeptLog, IsOpening, IsOldOrNew}
-use Rattle.tq_gate.proofs.Stretches.{run_at-is}
+use Rattle.tq_gate.proofs.RangeLemmas.{run_at-is}
 use Rattle.tq_gate.proofs.FrameLemmas.{length-behind_gate}
 use Rattle.tq_gate.proofs.Readings.{end_of-push, records_push}
 use Rattle.tq_gate.proofs.Contents.{whole_open, open_whole, of_whole, whole_but, log_byte, log_long, log_within, log_same, records_kept}

@@ -12,7 +12,7 @@ use Rattle.tq_device.specs.Content.{HasContent}
 use Rattle.tq_device.specs.Parts.{entry_of, IsFitting}
 use Rattle.tq_device.proofs.Areas.{chosen_most}
 use Rattle.tq_device.proofs.EntryLemmas.{entry_fits}
-use Rattle.tq_device.proofs.Standing.{stands_parts, stands_kept}
+use Rattle.tq_device.proofs.ContentLemmas.{stands_parts, stands_kept}
 
 -- a content stays where the bytes of the header's clusters do
 pub below_stands : (d : DeviceContent) (old new : List ℕ) → length new ≡ length old → ((i : ℕ) → i < 131072 → get_or new i 0 ≡ get_or old i 0) → HasContent d old → HasContent d new

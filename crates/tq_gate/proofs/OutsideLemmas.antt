@@ -8,7 +8,7 @@ use Rattle.tq_gate.specs.declared.layout.Areas.TheVariants.{One, Two}
 use Rattle.tq_gate.specs.Layout.{address, first_area, area_length, areas_end, total_length, base_length, log_length, layout_end, IsSelector}
 use Rattle.tq_gate.specs.Reading.{Content, content, chosen, area_of, base_in, log_in, AreRecords}
 use Rattle.tq_field.specs.GatedLog.{end_of}
-use Rattle.tq_gate.proofs.Stretches.{bytes_from-same}
+use Rattle.tq_gate.proofs.RangeLemmas.{bytes_from-same}
 use Rattle.tq_gate.proofs.Contents.{whole_of, of_whole, chosen_same}
 
 by_bounds : (n first long : ℕ) → (first ≤ (if n % 2 == 0 then first else first + long)) × ((if n % 2 == 0 then first else first + long) + long ≤ first + (long + long))

@@ -17,7 +17,7 @@ use Rattle.tq_device.specs.Content.{HasContent, IsBlankOrNew, IsAnyStep, new_con
 use Rattle.tq_device.specs.Made.{IsShort, made_byte, IsMadeTo, IsPaged, IsLaidOut}
 use Rattle.tq_device.specs.Parts.{is_header, is_journal, HasHeader, IsTable, HasTable, HasJournal}
 use Rattle.tq_device.proofs.Parts.{AreSame, shifted, same_runs, same_numbers}
-use Rattle.tq_device.proofs.Standing.{base_holds, header_kept, table_kept, journal_kept, parts_stand}
+use Rattle.tq_device.proofs.ContentLemmas.{base_holds, header_kept, table_kept, journal_kept, parts_stand}
 
 pub any_steps : IsSteps IsAnyStep
 any_steps = record { none = λ c. tt; both = λ a b c first second. tt }

@@ -6,7 +6,7 @@ use Rattle.tq_host.specs.Calls.{IsDeviceCall, IsStill}
 use Rattle.tq_host.specs.Within.{Within}
 use Rattle.tq_host.proofs.Steps.{IsSteps}
 use Rattle.tq_host.proofs.Within.{starts, still, in_a_row, wider}
-use Rattle.tq_host.proofs.Resting.{rest_start, rest_on, rest_still, still_start, still_on}
+use Rattle.tq_host.proofs.QuietLemmas.{rest_start, rest_on, rest_still, still_start, still_on}
 use Rattle.tq_gate.specs.Loading.{IsSame, IsAny, IsQuiet}
 
 same_steps : IsSteps IsSame

@@ -1,0 +1,4 @@
+pub mod Clusters
+pub mod Pages
+pub mod TakeError
+pub mod Owner
