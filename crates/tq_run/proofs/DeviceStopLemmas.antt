@@ -17,11 +17,12 @@ use Rattle.tq_device.specs.declared.content.NamedSpace.{NamedSpace}
 use Rattle.tq_run.specs.Manager.{site_of, site_with, identity_in, site_at, ImageMatches, IsContentOn, IsFileOn}
 use Rattle.tq_run.specs.Serving.{ChangesOnce}
 use Rattle.tq_run.specs.Stops.{AreEither, ImagesMatch}
+use Rattle.tq_run.proofs.FrameLemmas.{others_here, others_of_call, others_told}
 use Rattle.tq_run.proofs.FoundLemmas.{blank_found, blank_is_short, image_bare, part_of_stands, stands_for}
 
 -- where nothing is done
 pub stays : (o : Outcome) (m : Manager) (v : View) → ImagesMatch m v → ChangesOnce o m v v
-stays o m v on = record { within = starts_all (AreEither (site_of m) o.site) v (λ images may. inl (stands_for m images (on (images 0) (may 0)))); attached = refl }
+stays o m v on = record { within = starts_all (AreEither (site_of m) o.site) v (λ images may. inl (stands_for m images (on (images 0) (may 0)))); attached = refl; others = others_here v }
 
 -- a host that tells no images has none to show
 pub told_stops : {tells : Told} (o : Outcome) (m : Manager) (old new : View) → IsLawful tells new → KeepsRest 0 old new → (tells.stops → ChangesOnce o m old new) → ChangesOnce o m old new
@@ -33,6 +34,7 @@ told_stops o m old new lawful rest told = record {
     pictures = λ t p le left. (told (lawful.left_told t p left)).within.pictures t p le left;
   };
   attached = rest.attached;
+  others = others_told old new lawful rest (λ t. (told t).others);
 }
 
 -- the rest of the outside
@@ -71,6 +73,7 @@ module _ (creation : Creation) (m : Manager) (blank : m.content ≡ None) (zero_
       → (((image : List ℕ) → old.may_leave 0 image → length image < 131072) → Within 0 IsAnyStep (IsBlankOrNew site creation.clusters) old new) → ChangesOnce (create_device creation (site_of m)) m old new
   creating site old new asked on rest stop = record {
     attached = rest.attached;
+    others = others_of_call IsAnyStep (IsBlankOrNew site creation.clusters) old new (stop (λ image may. blank_is_short m image blank (on image may))) rest;
     within = of_one 0 IsAnyStep (IsBlankOrNew site creation.clusters) (AreEither (site_of m) (create_device creation (site_of m)).site) old new (λ b images was step is. ⊎_elim
         (λ short. inl (blank_found images short ∙ ap (λ (d : Option DeviceContent). Some (durable (site_with d m.file m.next))) (sym blank)))
         (λ stands. inr (image_bare (new_content site creation.clusters) 0 images (part_of_stands (new_content site creation.clusters) (images 0) stands) refl

@@ -1,7 +1,10 @@
 pub mod FoundLemmas
+pub mod TakeLemmas
 pub mod CountLemmas
 pub mod RunDeviceLemmas
 pub mod PictureLemmas
+pub mod FrameLemmas
+pub mod AttachLemmas
 pub mod DeviceStopLemmas
 pub mod SpaceCreationLemmas
 pub mod BootStopLemmas
@@ -13,7 +16,9 @@ pub mod FailureAccountLemmas
 pub mod TurnLemmas
 pub mod RespondLemmas
 pub mod LeftAloneLemmas
+pub mod LastLineLemmas
 pub mod IdleLemmas
+pub mod WholeLemmas
 pub mod LineByLineLemmas
 pub mod Line0Lemmas
 pub mod StatusLemmas

@@ -1,8 +1,8 @@
 -- Line 0: a device is attached, and then there is a boot of what it stands for.
-use Rattle.std.proofs.Common.{◌≡◌, inl, inr, ⊎_elim, ◌<◌, ℕ, zero, suc, List, [], ◌∷◌, ◌++◌, Option, Some, None, Bool, true, false, cond, Result, Ok, Err, refl, sym, ◌∙◌, ap, subst, arith, length, append_assoc}
+use Rattle.std.proofs.Common.{◌≡◌, inl, inr, ⊎_elim, ◌<◌, ℕ, zero, suc, List, [], ◌∷◌, ◌++◌, Option, Some, None, Bool, true, false, cond, Result, Ok, Err, refl, sym, ◌∙◌, ap, subst, arith, length, take, append_assoc, length-append}
 use Rattle.std.specs.Prelude.{replicate, nat_lt, All}
 use Rattle.std.proofs.lemmas.Bool.Decides.{nat_tests}
-use Rattle.std.proofs.lemmas.List.{append-nil, append_cancel_left}
+use Rattle.std.proofs.lemmas.List.{append-nil, append_cancel_left, take_all}
 use Rattle.std.specs.List.{slice_index_or}
 use Rattle.tq_host.specs.View.{Told, View, Images, AreNow, Stamp, Streams, AreSettled, stamp_now}
 use Rattle.tq_host.specs.Calls.{HasCause, HasCauseOf, IsDeviceCall, Attaches, IsGiven, IsGiving}
@@ -14,6 +14,7 @@ use Rattle.tq_model.specs.Site.{Site, durable}
 use Rattle.tq_model.specs.Step.{step, booted, can_boot, ready}
 use Rattle.tq_model.specs.Text.{line_text}
 use Rattle.tq_model.specs.Reading.{site_found}
+use Rattle.tq_model.proofs.LineText.{length-line_text}
 use Rattle.tq_model.specs.MachineWithFaults.{Up, Failures, Turn, failing_turn, boot_turn, rose_at, turn_at}
 use Rattle.tq_run.specs.declared.site.Manager.{Manager}
 use Rattle.tq_run.specs.declared.state.State.TheVariants as states
@@ -24,7 +25,7 @@ use Rattle.tq_run.specs.Ending.{trace_of}
 use Rattle.tq_run.specs.Output.{TellsMore, HasBegun}
 use Rattle.tq_run.specs.Manager.{site_of, IsBooted}
 use Rattle.tq_run.specs.Stops.{ImagesHave, ImagesHaveAny, ImagesMatch, HasNoNewImage, AreOldOrBooted}
-use Rattle.tq_run.specs.Turns.{AreInCondition, AreBeforeOrAfter, RunsOver, origin_of, none_failed}
+use Rattle.tq_run.specs.Turns.{AreInCondition, AreBeforeOrAfter, RunsOver, IsAnswered, origin_of, none_failed}
 use Rattle.tq_run.specs.Standing.{StateMatches, HasStarted}
 use Rattle.tq_run.specs.Words.{device_count}
 use Rattle.tq_run.proofs.CountLemmas.{some_is, steady_cause, risen_cause}
@@ -35,6 +36,7 @@ use Rattle.tq_run.proofs.BootStopLemmas.{read_stands}
 use Rattle.tq_run.proofs.BootTurnLemmas.{turn_up, site_up, stand_in, stand_for}
 use Rattle.tq_run.proofs.RespondLemmas.{images_in, still_in}
 use Rattle.tq_run.proofs.IdleLemmas.{idle_few}
+use Rattle.tq_run.proofs.WholeLemmas.{whole_none, whole_next}
 use Rattle.tq_run.proofs.TurnLemmas.{starts_answered, only_done, line_since, line_over, line_answered}
 
 -- the turn of line 0
@@ -128,18 +130,24 @@ module _ (found : Site) (a b : View) {tells : Told} {path : List ℕ} {r : Resul
       first_over = over
 
       pub first_started : k ≡ length (line_text 0 (ready (site_of m))) → e.reads 0 ≡ d.reads 0 → HasStarted found (states.Up m) a e
-      first_started whole reads = record {
-        failed = first_since;
-        reached = record {
-          condition = t.condition;
-          answered = line_answered (starts_answered a found) Boot t same_streams false calm_line (first_is false None found) same_after given_text (whole ∙ ap (λ (l : List ℕ). length l) text_is) (same_found e.reads d.reads reads);
-          is = still_in (states.Up m) t.condition d e none up_after;
-          some = omega arith;
-          idle = idle_few (origin_of a) e.faults _ first_since found (Boot ∷ []) (omega arith);
-          clock = λ long. absurd (omega (arith, long));
-        };
-        ran = λ settled. (over settled).ran;
-      }
+      first_started whole reads =
+          let stamps : e.streams.stamps ≡ a.streams.stamps ++ replicate k (stamp_now d) = given.stamps ∙ ap (λ (s : Streams). s.stamps ++ replicate k (stamp_now d)) same_streams in
+          let answered : IsAnswered (origin_of a) e found first_since (Boot ∷ []) t.condition
+          = line_answered (starts_answered a found) Boot t same_streams false calm_line (first_is false None found) same_after given_text (whole ∙ ap (λ (l : List ℕ). length l) text_is) (same_found e.reads d.reads reads) in
+          record {
+            failed = first_since;
+            reached = record {
+              condition = t.condition;
+              answered = answered;
+              is = still_in (states.Up m) t.condition d e none up_after;
+              some = omega arith;
+              idle = idle_few (origin_of a) e.faults _ first_since found (Boot ∷ []) (omega arith);
+              whole = whole_next (starts_answered a found) (whole_none (origin_of a) a.faults _ none_failed found) e k (stamp_now d) (omega (arith, whole, length-line_text 0 (ready (site_of m)))) stamps first_since
+                  (λ at lt. absurd (omega (arith, lt))) Boot answered;
+              clock = λ long. absurd (omega (arith, long));
+            };
+            ran = λ settled. (over settled).ran;
+          }
 
 -- Whether a device failed in line 0, by what is told
 
@@ -171,7 +179,19 @@ pub begun_given : (a b d : View) (text : List ℕ) → 0 < length text → b.str
 begun_given a b d [] some streams faults given = absurd (omega arith)
 begun_given a b d (x ∷ text) some streams faults given =
     let at : Stamp = stamp_now b in
-    record { first = at; rest = replicate (length text) at; stamps = given.stamps ∙ ap (λ (s : Streams). s.stamps ++ at ∷ replicate (length text) at) streams; calm = faults }
+    record {
+      first = at;
+      rest = replicate (length text) at;
+      stamps = given.stamps ∙ ap (λ (s : Streams). s.stamps ++ at ∷ replicate (length text) at) streams;
+      calm = faults;
+      output = omega (
+        arith,
+        ap (λ (l : List ℕ). length l) given.output,
+        length-append b.streams.output (take (length (x ∷ text)) (x ∷ text)),
+        ap (λ (l : List ℕ). length l) (take_all (length (x ∷ text)) (x ∷ text) (omega arith)),
+        ap (λ (s : Streams). length s.output) streams,
+      );
+    }
 
 -- later stamps tell nothing else of line 0
 pub calm_begun : (a b d : View) → HasBegun a b → TellsMore b d → (added : List Stamp) → d.streams.stamps ≡ a.streams.stamps ++ added → rose_at (trace_of a d added) 0 ≡ false

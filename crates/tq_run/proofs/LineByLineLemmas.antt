@@ -26,8 +26,10 @@ use Rattle.tq_run.specs.Words.{device_count}
 use Rattle.tq_run.specs.Idle.{AreIdleLines, clock_at}
 use Rattle.tq_run.proofs.RunDeviceLemmas.{same_found}
 use Rattle.tq_run.proofs.BootStopLemmas.{read_stands}
-use Rattle.tq_run.proofs.IdleLemmas.{idle_few, idle_next, last_clock}
-use Rattle.tq_run.proofs.TurnLemmas.{starts_answered, turn_told, still_answered, ran_more, of_answered_more, only_done, line_over, line_answered}
+use Rattle.tq_run.proofs.IdleLemmas.{idle_few, idle_next}
+use Rattle.tq_run.proofs.LastLineLemmas.{clock_of}
+use Rattle.tq_run.proofs.WholeLemmas.{whole_still, whole_next}
+use Rattle.tq_run.proofs.TurnLemmas.{starts_answered, last_told, turn_told, still_answered, ran_more, of_answered_more, only_done, line_over, line_answered}
 use Rattle.tq_run.proofs.RespondLemmas.{images_in, still_in}
 
 module _ (o : Origin) (found : Site) (failed : Failures) (done : List Request) (r : Request) (state : State) (a b : View) (reached : HasReached o found failed done state a) where
@@ -78,7 +80,8 @@ module _ (o : Origin) (found : Site) (failed : Failures) (done : List Request) (
               is = still_in state' t.condition b d none is_in;
               some = omega (arith, length-append done (r ∷ []));
               idle = subst (λ (l : List Stamp). AreIdleLines o d.faults l over.since found (done ++ r ∷ [])) bytes (idle_next reached d k (stamp_now b) some stamps over.since over.on r (turned.idle reached.condition reached.is));
-              clock = λ long. clock ∙ ap next_count (sym (subst (λ (l : List Stamp). clock_at l (length l - 1) ≡ b.clock) bytes (last_clock reached d k (stamp_now b) some stamps over.since over.on)));
+              whole = whole_next reached.answered reached.whole d k (stamp_now b) some stamps over.since over.on r answered;
+              clock = λ long. clock ∙ ap next_count (sym (subst (λ (l : List Stamp). clock_at l (length l - 1) ≡ b.clock) bytes (last_told clock_of reached.answered.added k (stamp_now b) 0 some)));
             };
             ran = over.ran;
           }
@@ -235,20 +238,23 @@ module _ (o : Origin) (found : Site) (failed : Failures) (first : Request) (stat
     (none : HasNoNewImage a b) (still : TakesOnly a b) (faults : b.faults ≡ a.faults) (waits : Ran (IsWaiting a) a b) where
   -- the first line, with a part in which nothing is done behind it
   pub waiting_run : HasRun o found failed (first ∷ []) state a b
-  waiting_run = record {
-    since = failed;
-    on = on_none o a failed;
-    reached = record {
-      condition = reached.condition;
-      answered = still_answered reached.answered b still.output still.stamps faults (same_found b.reads a.reads (still.reads 0));
-      is = still_in state reached.condition a b none reached.is;
-      some = omega arith;
-      idle = idle_few o b.faults _ failed found (first ∷ []) (omega arith);
-      clock = λ long. absurd (omega (arith, long));
-    };
-    ran = ran_weaker (IsWaiting a) (IsOfLines o b found failed (first ∷ [])) a b
-        (λ p w. of_answered_more reached.answered b [] (still.stamps ∙ sym (append-nil a.streams.stamps)) failed (on_none o a failed) [] p (images_in state reached.condition a reached.is p.images w.images) w.output) waits;
-  }
+  waiting_run =
+      let answered = still_answered reached.answered b still.output still.stamps faults (same_found b.reads a.reads (still.reads 0)) in
+      record {
+        since = failed;
+        on = on_none o a failed;
+        reached = record {
+          condition = reached.condition;
+          answered = answered;
+          is = still_in state reached.condition a b none reached.is;
+          some = omega arith;
+          idle = idle_few o b.faults _ failed found (first ∷ []) (omega arith);
+          whole = whole_still reached.answered answered still.stamps faults reached.whole;
+          clock = λ long. absurd (omega (arith, long));
+        };
+        ran = ran_weaker (IsWaiting a) (IsOfLines o b found failed (first ∷ [])) a b
+            (λ p w. of_answered_more reached.answered b [] (still.stamps ∙ sym (append-nil a.streams.stamps)) failed (on_none o a failed) [] p (images_in state reached.condition a reached.is p.images w.images) w.output) waits;
+      }
 
   -- and then its lines are answered
   module _ (d : View) (more : TellsMore b d) (requests : List Request) where
@@ -271,6 +277,8 @@ is_done start now found failed state lawful t left reached = record {
   output = reached.answered.output;
   devices = subst (λ (c : Condition). HaveCondition device_count now.reads c) (sym reached.answered.condition) (images_in state reached.condition now reached.is now.reads (lawful.reads_an_image t.stops));
   idle = reached.idle;
+  whole = reached.whole;
+  clock = reached.clock;
 }
 
 module _ {tells : Told} {start now : View} (lawful : IsLawful tells start) (found : Site) (settled : AreSettled device_count start) (is : site_found device_count start.reads ≡ Some found)

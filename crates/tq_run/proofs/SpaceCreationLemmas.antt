@@ -39,6 +39,7 @@ use Rattle.tq_run.specs.Together.{place_of}
 use Rattle.tq_run.specs.Spaces.{IsShape, IsAdmitted, HasNewSpace, IsNewSpaceOn, IsBareOrNew}
 use Rattle.tq_run.specs.Stops.{ImagesHave, ImagesMatch, AreEither}
 use Rattle.tq_run.specs.Serving.{ChangesOnce}
+use Rattle.tq_run.proofs.FrameLemmas.{others_of_call}
 use Rattle.tq_run.proofs.FoundLemmas.{image_at, image_bare, part_of_stands, content_stands}
 use Rattle.tq_device.proofs.ForCallers.{below_stands}
 use Rattle.tq_device.proofs.Longer.{longer_stands}
@@ -180,6 +181,7 @@ module _ (c : SpaceCreation) (m : Manager) (d : DeviceContent) (is : IsAdmitted 
       → (((image : List ℕ) → a.may_leave 0 image → HasContent d image) → Within 0 IsAnyStep (IsBareOrNew d c.name shape) a b) → ChangesOnce (create_space c (site_of m)) m a b
   making shape a b asked on rest stop = record {
     attached = rest.attached;
+    others = others_of_call IsAnyStep (IsBareOrNew d c.name shape) a b (stop (λ image may. content_stands m d image is.content (on image may))) rest;
     within = of_one 0 IsAnyStep (IsBareOrNew d c.name shape) (AreEither (site_of m) (create_space c (site_of m)).site) a b (λ i images was step has. ⊎_elim
         (λ bare. inl (bare_have images bare))
         (λ new. inr (new_have images (subst (λ (s : Shape). IsNewSpaceOn d c.name s (images 0)) asked new))) has) (stop (λ image may. content_stands m d image is.content (on image may)));

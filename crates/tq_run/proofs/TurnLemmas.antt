@@ -142,7 +142,7 @@ take_behind [] ys k = ap (λ i. take i ys) (let e : 0 + k ≡ k = omega arith in
 take_behind (x ∷ xs) ys k = ap (λ i. take i (x ∷ (xs ++ ys))) (let e : suc (length xs) + k ≡ suc (length xs + k) = omega arith in e) ∙ ap (λ (l : List ℕ). x ∷ l) (take_behind xs ys k)
 
 -- what was told of a run stays told
-more_stamps : (o : Origin) (mid new : View) (added more : List Stamp) → mid.streams.stamps ≡ o.stamps ++ added → new.streams.stamps ≡ mid.streams.stamps ++ more → new.streams.stamps ≡ o.stamps ++ (added ++ more)
+pub more_stamps : (o : Origin) (mid new : View) (added more : List Stamp) → mid.streams.stamps ≡ o.stamps ++ added → new.streams.stamps ≡ mid.streams.stamps ++ more → new.streams.stamps ≡ o.stamps ++ (added ++ more)
 more_stamps o mid new added more first second = second ∙ ap (λ (l : List Stamp). l ++ more) first ∙ append_assoc o.stamps added more
 
 -- of steps before these bytes both say the same

@@ -1,6 +1,7 @@
 -- What a run comes to.
-use Rattle.std.specs.Prelude.{◌≡◌, ℕ, true, false, Result, Ok, Err, List, [], ◌∷◌, ◌++◌, map}
+use Rattle.std.specs.Prelude.{◌≡◌, ◌≤◌, ℕ, ◌-◌, true, false, Result, Ok, Err, List, [], ◌∷◌, ◌++◌, length, map}
 use Rattle.tq_host.specs.View.{View, Stamp, Told, Images}
+use Rattle.tq_host.specs.Calls.{next_count}
 use Rattle.tq_model.specs.declared.request.Request.TheVariants.{Boot}
 use Rattle.tq_model.specs.Site.{Site}
 use Rattle.tq_model.specs.Grammar.{script_requests}
@@ -14,7 +15,7 @@ use Rattle.tq_run.specs.Failures.{AreFailures}
 use Rattle.tq_run.specs.Manager.{is_bootable}
 use Rattle.tq_run.specs.Words.{device_count}
 use Rattle.tq_run.specs.Turns.{origin_of}
-use Rattle.tq_run.specs.Idle.{AreIdleLines}
+use Rattle.tq_run.specs.Idle.{AreIdleLines, AreWhole, clock_at}
 
 -- what the host tells of a run in which these stamps came
 abbrev pub trace_of : View → View → List Stamp → Trace
@@ -24,8 +25,8 @@ trace_of start now added = record { devices = device_count; before = start.fault
 abbrev pub machine_at_end : Trace → Failures → Site → List ℕ → Progress
 machine_at_end trace failed found script = after trace failed (beginning found) (Boot ∷ script_requests script)
 
--- A run that is done: the script is read to its end, the output is the machine's text, the devices stand for its state, and
--- idle lines made no call.
+-- A run that is done: the script is read to its end, the output is the machine's text, the devices stand for its state, idle
+-- lines made no call, each answer was given in one call, and where there is a line 1 nothing was called behind the last answer.
 pub record IsDone (start now : View) (found : Site) : Type 0 where
   pub added : List Stamp
   pub stamps : now.streams.stamps ≡ start.streams.stamps ++ added
@@ -35,6 +36,8 @@ pub record IsDone (start now : View) (found : Site) : Type 0 where
   pub output : now.streams.output ≡ start.streams.output ++ (machine_at_end (trace_of start now added) failed found start.streams.script).text
   pub devices : HaveCondition device_count now.reads (machine_at_end (trace_of start now added) failed found start.streams.script).condition
   pub idle : AreIdleLines (origin_of start) now.faults added failed found (Boot ∷ script_requests start.streams.script)
+  pub whole : AreWhole (origin_of start) now.faults added failed found (Boot ∷ script_requests start.streams.script)
+  pub clock : 2 ≤ length (Boot ∷ script_requests start.streams.script) → now.clock ≡ next_count (clock_at added (length added - 1))
 
 -- nothing was written and nothing given
 pub record IsUntouched (start now : View) : Type 0 where

@@ -14,3 +14,4 @@ pub mod Serving
 pub mod Turns
 pub mod Idle
 pub mod Standing
+pub mod Frame

@@ -10,6 +10,7 @@ use Rattle.tq_run.specs.declared.site.Manager.{Manager}
 use Rattle.tq_run.specs.Manager.{site_of}
 use Rattle.tq_run.specs.Stops.{ImagesMatch, AreEither}
 use Rattle.tq_run.specs.Counts.{Rises}
+use Rattle.tq_run.specs.Frame.{LeavesOthers}
 
 -- The answer and the site are those of the machine's step; each image that a stop may leave has the site.
 pub record IsServed (o : Outcome) (m m' : Manager) (now : View) (a : Answer) : Type 0 where
@@ -18,10 +19,12 @@ pub record IsServed (o : Outcome) (m m' : Manager) (now : View) (a : Answer) : T
   pub next : m'.next ≤ m.next + 1
   pub images : ImagesMatch m' now
 
--- In each picture the devices stand for the site before the step, or for the one after it; the rest of the outside is as it was.
+-- In each picture the devices stand for the site before the step, or for the one after it; the rest of the outside is as it was,
+-- the other devices too.
 pub record ChangesOnce (o : Outcome) (m : Manager) (old new : View) : Type 0 where
   pub within : WithinAll (AreEither (site_of m) o.site) old new
   pub attached : new.attached ≡ old.attached
+  pub others : LeavesOthers old new
 
 -- the count of device failures rose where a device failed, and nowhere else
 abbrev pub CountsFailure : {T : Type 0} → Result T Failure → ℕ → ℕ → Type 0

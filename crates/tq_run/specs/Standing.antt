@@ -14,7 +14,7 @@ use Rattle.tq_run.specs.declared.state.State.TheVariants as states
 use Rattle.tq_run.specs.Manager.{site_of}
 use Rattle.tq_run.specs.Stops.{ImagesMatch}
 use Rattle.tq_run.specs.Words.{device_count}
-use Rattle.tq_run.specs.Idle.{IsIdle, AreIdleLines, clock_at}
+use Rattle.tq_run.specs.Idle.{IsIdle, AreIdleLines, AreWhole, clock_at}
 use Rattle.tq_run.specs.Turns.{AreInCondition, AreBeforeOrAfter, turn_between, Origin, origin_of, IsAnswered, IsOfLines, GoesOn}
 
 -- up with this site
@@ -62,6 +62,7 @@ pub record HasReached (o : Origin) (found : Site) (failed : Failures) (done : Li
   pub is : StateMatches state condition now
   pub some : 1 ≤ length done
   pub idle : AreIdleLines o now.faults answered.added failed found done
+  pub whole : AreWhole o now.faults answered.added failed found done
   -- behind line 1 nothing was called since the last answer was given
   pub clock : 2 ≤ length done → now.clock ≡ next_count (clock_at answered.added (length answered.added - 1))
 

@@ -6,6 +6,7 @@ ghost use Rattle.tq_model.specs.Step.{can_boot};
 ghost use Rattle.tq_model.specs.Reading.{site_found};
 ghost use Rattle.tq_device.specs.Content.{IsFoundOn, IsFoundWithin, IsWithin, HasContent, IsSameImage, IsAny};
 ghost use Rattle.tq_host.specs.Calls.{HasCause};
+ghost use Rattle.tq_run.specs.Frame.{LeavesOthers};
 ghost use Rattle.tq_run.specs.Counts.{CountsBoot};
 ghost use Rattle.tq_run.specs.Stops.{HasNoNewImage, ImagesMatch, ImagesHaveAny, AreFoundOrBooted, AreOldOrBooted};
 ghost use Rattle.tq_run.specs.Manager.{is_bootable, IsBooted, IsLoaded, IsRaised, loaded_site};
@@ -92,6 +93,7 @@ fn raise<H: Host>(
     ensures failed { CountsBoot result (H.view host.old).faults (H.view host.new).faults }
     ensures rest { KeepsRest 0 (H.view host.old) (H.view host.new) }
     ensures memory { result ≢ Err BootFailure.Memory }
+    ensures others { ((c : List ℕ) → (H.view host.old).may_leave 0 c → IsLoaded content.now file c) → LeavesOthers (H.view host.old) (H.view host.new) }
 {
     if content.epoch == u32::MAX {
         return Err(BootFailure::Damaged);
@@ -126,6 +128,7 @@ fn boot_content<H: Host>(
     ensures on { IfOk result (λ m. ImagesMatch m (H.view host.new)) }
     ensures failed { CountsBoot result (H.view host.old).faults (H.view host.new).faults }
     ensures rest { KeepsRest 0 (H.view host.old) (H.view host.new) }
+    ensures others { IsSettled 0 (H.view host.old) → LeavesOthers (H.view host.old) (H.view host.new) }
 {
     let file = load_space(alloc, host, content)?;
     raise(host, content, file)
@@ -150,6 +153,7 @@ pub fn boot<H: Host>(alloc: Global, host: &mut H) -> Result<Manager, BootFailure
         → site_found device_count images ≡ site_found device_count (H.view host.old).reads }
     ensures failed { CountsBoot result (H.view host.old).faults (H.view host.new).faults }
     ensures rest { KeepsBeside (H.view host.old) (H.view host.new) }
+    ensures others { LeavesOthers (H.view host.old) (H.view host.new) }
 {
     match look(host)? {
         Found::Damaged => Err(BootFailure::Damaged),

@@ -4,6 +4,7 @@ ghost use Rattle.tq_host.specs.Within.{KeepsBeside};
 ghost use Rattle.tq_model.specs.declared.request.Request.{Request};
 ghost use Rattle.tq_model.specs.declared.request.Request.TheVariants as requests;
 ghost use Rattle.tq_model.specs.MachineWithFaults.{down_answer};
+ghost use Rattle.tq_run.specs.Frame.{LeavesOthers};
 ghost use Rattle.tq_run.specs.Standing.{next_of, StateImagesMatch, HasTurned, IsTurning};
 
 use crate::devices::readiness;
@@ -38,6 +39,7 @@ fn reboot<H: Host>(alloc: Global, host: &mut H, state: &mut State) -> Result<Ans
     ensures stop { TellsAll H.tells → IsTurning state.old requests.Boot (H.view host.old) (H.view host.new) }
     ensures later { (H.view host.old).faults ≤ (H.view host.new).faults }
     ensures rest { KeepsBeside (H.view host.old) (H.view host.new) }
+    ensures others { LeavesOthers (H.view host.old) (H.view host.new) }
 {
     match boot(alloc, host) {
         Ok(manager) => {
@@ -74,6 +76,7 @@ fn serve_standing<H: Host>(
     ensures stop { TellsAll H.tells → IsTurning state.old request (H.view host.old) (H.view host.new) }
     ensures later { (H.view host.old).faults ≤ (H.view host.new).faults }
     ensures rest { KeepsBeside (H.view host.old) (H.view host.new) }
+    ensures others { LeavesOthers (H.view host.old) (H.view host.new) }
 {
     let served = match state {
         State::Up(manager) => serve(alloc, host, manager, request),
@@ -105,6 +108,7 @@ pub fn respond<H: Host>(
     ensures stop { TellsAll H.tells → IsTurning state.old request (H.view host.old) (H.view host.new) }
     ensures later { (H.view host.old).faults ≤ (H.view host.new).faults }
     ensures rest { KeepsBeside (H.view host.old) (H.view host.new) }
+    ensures others { LeavesOthers (H.view host.old) (H.view host.new) }
 {
     if let Request::Boot = request {
         return reboot(alloc, host, state);

@@ -1,11 +1,12 @@
-ghost use Rattle.std.specs.Prelude.{◌≡◌, ◌≢◌, ◌⊎◌, ◌<◌, ◌≤◌, ◌+◌, ◌++◌, ◌↔◌, true, false, [], ◌∷◌, List, ℕ, map, string_bytes, IfOk, OnOk, OnErr, None, Some};
+ghost use Rattle.std.specs.Prelude.{◌≡◌, ◌≢◌, ◌⊎◌, ◌<◌, ◌≤◌, ◌+◌, ◌++◌, ◌↔◌, true, false, [], ◌∷◌, List, ℕ, map, string_bytes, length, All, IfOk, OnOk, OnErr, None, Some};
 ghost use Rattle.tq_host.specs.Calls.{HasCauseOf, Rose};
-ghost use Rattle.tq_host.specs.View.{TellsAll, Stamp, AreNow, AreSettled};
+ghost use Rattle.tq_host.specs.View.{TellsAll, Stamp, TakeStamp, AreNow, AreSettled};
 ghost use Rattle.tq_model.specs.Step.{can_boot};
 ghost use Rattle.tq_model.specs.MachineWithFaults.{Failures, rose_at};
 ghost use Rattle.tq_model.specs.declared.request.Request.{Request};
 ghost use Rattle.tq_model.specs.declared.request.Request.TheVariants as requests;
 ghost use Rattle.tq_host.specs.Within.{WithinAll};
+ghost use Rattle.tq_run.specs.Frame.{LeavesOthers};
 ghost use Rattle.tq_run.specs.Stops.{IsCrashSafe, IsLeftAlone};
 ghost use Rattle.tq_run.specs.Turns.{Origin, origin_of, none_failed, RunsOver};
 ghost use Rattle.tq_run.specs.Standing.{next_of, StateImagesMatch, HasReached, HasRun, HasStarted};
@@ -14,9 +15,9 @@ ghost use Rattle.tq_model.specs.Grammar.{script_requests};
 ghost use Rattle.tq_model.specs.Reading.{site_found};
 ghost use Rattle.tq_run.specs.Counts.{NoneRose, HasCounts, HasRunCounts, itself, run_end_of_script, run_end_of_start};
 ghost use Rattle.tq_run.specs.Ending.{IsDone, IsUntouched, IsDamaged, FailsInLine0, IsComplete, status_for, trace_of};
-ghost use Rattle.tq_run.specs.Input.{IsRead};
+ghost use Rattle.tq_run.specs.Input.{IsRead, TakesWith};
 ghost use Rattle.tq_run.specs.Manager.{is_bootable};
-ghost use Rattle.tq_run.specs.Output.{TellsMore, HasBegun, BeginsAttached, KeepsInput};
+ghost use Rattle.tq_run.specs.Output.{TellsMore, HasBegun, AreAttached, TellsAttached, StaysAttached, KeepsInput};
 ghost use Rattle.tq_run.specs.Words.{device_count, device_word};
 
 use crate::devices::readiness;
@@ -33,7 +34,7 @@ use tq_host::Host;
 const MOST_INPUT: u64 = 4294967296;
 
 // Reads the script, at most `limit` bytes of it, and answers its lines.
-#[tactic(auto, using(crate::proofs::LineByLineLemmas::tells_on, crate::proofs::LineByLineLemmas::tells_none))]
+#[tactic(auto, using(crate::proofs::LineByLineLemmas::tells_on, crate::proofs::LineByLineLemmas::tells_none, crate::proofs::TakeLemmas::takes_then, crate::proofs::FrameLemmas::others_on, crate::proofs::AttachLemmas::stays_same, crate::proofs::AttachLemmas::stays_on))]
 fn answer_script<H: Host>(
     alloc: Global,
     host: &mut H,
@@ -45,24 +46,27 @@ fn answer_script<H: Host>(
     requires first { next_of state.old ≡ 0 }
     requires on { StateImagesMatch state.old (H.view host.old) }
     ensures left { OnOk result (H.tells.script → (H.view host.new).streams.script ≡ []) }
+    ensures takes { H.tells.output → TakesWith (length (H.view host.old).streams.output) (H.view host.old).streams (H.view host.new).streams }
     ensures reached { OnOk result (TellsAll H.tells → (o : Origin) (found : Site) (failed : Failures) (first : Request)
         → HasReached o found failed (first ∷ []) state.old (H.view host.old) → HasRun o found failed (first ∷ script_requests (H.view host.old).streams.script) state.new (H.view host.old) (H.view host.new)) }
     ensures stop { TellsAll H.tells → (o : Origin) (found : Site) (failed : Failures) (first : Request)
         → HasReached o found failed (first ∷ []) state.old (H.view host.old) → RunsOver o found failed (first ∷ script_requests (H.view host.old).streams.script) (H.view host.old) (H.view host.new) }
     ensures told { H.tells.output → TellsMore (H.view host.old) (H.view host.new) }
+    ensures attached { H.tells.output → StaysAttached (H.view host.old) (H.view host.new) }
     ensures much { result ≡ Err ScriptEnd.TooMuchInput → H.tells.output → (H.view host.new).streams.taken ≡ (H.view host.old).streams.taken + limit }
     ensures less { (result ≢ Err ScriptEnd.TooMuchInput) → (result ≢ Err ScriptEnd.Memory) → H.tells.output
         → (H.view host.new).streams.taken < (H.view host.old).streams.taken + limit }
     ensures most { H.tells.output → (H.view host.new).streams.taken ≤ (H.view host.old).streams.taken + limit }
     ensures later { (H.view host.old).faults ≤ (H.view host.new).faults }
     ensures counts { HasRunCounts run_end_of_script result (H.view host.old) (H.view host.new) }
+    ensures others { LeavesOthers (H.view host.old) (H.view host.new) }
 {
     let script = read_script(alloc, host, limit)?;
     Ok(serve_lines(alloc, host, state, &script)?)
 }
 
 // Line 0: a boot of what device 0 stands for.
-#[tactic(auto, using(crate::proofs::LineByLineLemmas::tells_none, crate::proofs::LineByLineLemmas::tells_given, crate::proofs::LeftAloneLemmas::alone_attached, crate::proofs::LeftAloneLemmas::contradicts, crate::proofs::RunDeviceLemmas::was_bootable))]
+#[tactic(auto, using(crate::proofs::LineByLineLemmas::tells_none, crate::proofs::LineByLineLemmas::tells_given, crate::proofs::LeftAloneLemmas::alone_attached, crate::proofs::LeftAloneLemmas::contradicts, crate::proofs::RunDeviceLemmas::was_bootable, crate::proofs::FrameLemmas::others_on, crate::proofs::FrameLemmas::others_attached))]
 fn begin<H: Host>(alloc: Global, path: &str, host: &mut H) -> Result<State, StartEnd>
     ensures first { IfOk result (λ state. next_of state ≡ 0) }
     ensures on { IfOk result (λ state. StateImagesMatch state (H.view host.new)) }
@@ -76,7 +80,8 @@ fn begin<H: Host>(alloc: Global, path: &str, host: &mut H) -> Result<State, Star
         → is_bootable (site_found device_count (H.view host.old).reads) ≡ true }
     ensures left_alone { H.tells.reads → is_bootable (site_found device_count (H.view host.old).reads) ≡ false
         → WithinAll (AreNow (H.view host.old)) (H.view host.old) (H.view host.new) }
-    ensures attached { H.tells.output → BeginsAttached (path.now ∷ []) (H.view host.old) (H.view host.new) }
+    ensures attached { H.tells.output → TellsAttached (path.now ∷ []) (H.view host.old) (H.view host.new) }
+    ensures named { OnOk result (H.tells.output → AreAttached (path.now ∷ []) (H.view host.new).attached) }
     ensures told { H.tells.output → TellsMore (H.view host.old) (H.view host.new) }
     ensures begun { OnOk result (H.tells.output → HasBegun (H.view host.old) (H.view host.new)) }
     ensures calm { OnErr result ((result ≢ Err StartEnd.Device) → H.tells.output → (added : List Stamp)
@@ -85,6 +90,7 @@ fn begin<H: Host>(alloc: Global, path: &str, host: &mut H) -> Result<State, Star
     ensures silent { result ≡ Err StartEnd.Device → (H.view host.new).streams.output ≡ (H.view host.old).streams.output }
     ensures input { KeepsInput (H.view host.old) (H.view host.new) }
     ensures counts { HasCounts run_end_of_start result (H.view host.old) (H.view host.new) }
+    ensures others { LeavesOthers (H.view host.old) (H.view host.new) }
 {
     host.attach(0, path)?;
     let manager = boot(alloc, host)?;
@@ -93,7 +99,7 @@ fn begin<H: Host>(alloc: Global, path: &str, host: &mut H) -> Result<State, Star
 }
 
 // A run: a boot, which is line 0, and the lines of the script, of which at most `limit` bytes are read.
-#[tactic(auto, using(crate::proofs::LineByLineLemmas::tells_on, crate::proofs::LeftAloneLemmas::contradicts))]
+#[tactic(auto, using(crate::proofs::LineByLineLemmas::tells_on, crate::proofs::LeftAloneLemmas::contradicts, crate::proofs::TakeLemmas::none_taken, crate::proofs::FrameLemmas::others_on))]
 fn attend<H: Host>(alloc: Global, path: &str, host: &mut H, limit: u64) -> Result<(), RunEnd>
     requires some { 0 < limit }
     requires most { limit ≤ 4294967296 }
@@ -113,9 +119,12 @@ fn attend<H: Host>(alloc: Global, path: &str, host: &mut H, limit: u64) -> Resul
         → RunsOver (origin_of (H.view host.old)) found none_failed (requests.Boot ∷ script_requests (H.view host.old).streams.script) (H.view host.old) (H.view host.new) }
     ensures left_alone { H.tells.reads → is_bootable (site_found device_count (H.view host.old).reads) ≡ false
         → WithinAll (AreNow (H.view host.old)) (H.view host.old) (H.view host.new) }
-    ensures attached { H.tells.output → BeginsAttached (path.now ∷ []) (H.view host.old) (H.view host.new) }
+    ensures ready_first { H.tells.output → (added : List TakeStamp) → (H.view host.new).streams.takes ≡ (H.view host.old).streams.takes ++ added
+        → All (λ (t : TakeStamp). length (H.view host.old).streams.output < t.given) added }
+    ensures attached { H.tells.output → TellsAttached (path.now ∷ []) (H.view host.old) (H.view host.new) }
     ensures told { H.tells.output → TellsMore (H.view host.old) (H.view host.new) }
     ensures counts { HasRunCounts itself result (H.view host.old) (H.view host.new) }
+    ensures others { LeavesOthers (H.view host.old) (H.view host.new) }
 {
     let mut state = begin(alloc, path, host)?;
     Ok(answer_script(alloc, host, &mut state, limit)?)
@@ -137,6 +146,7 @@ fn status_of(ending: Result<(), RunEnd>) -> Status
 }
 
 /// The run that `run` is, with another limit: it takes at most `limit` bytes of the script.
+#[tactic(auto, using(crate::proofs::TakeLemmas::none_taken))]
 pub fn run_within<H: Host>(alloc: Global, words: &[String], host: &mut H, limit: u64) -> Status
     requires some { 0 < limit }
     requires most { limit ≤ 4294967296 }
@@ -149,7 +159,7 @@ pub fn run_within<H: Host>(alloc: Global, words: &[String], host: &mut H, limit:
         → H.tells.reads → is_bootable (site_found device_count (H.view host.old).reads) ≡ true }
     ensures left_alone { H.tells.reads → is_bootable (site_found device_count (H.view host.old).reads) ≡ false → IsLeftAlone (H.view host.old) (H.view host.new) }
     ensures attached { H.tells.output → (path : List ℕ) → device_word (map string_bytes words.now) ≡ Some path
-        → BeginsAttached (path ∷ []) (H.view host.old) (H.view host.new) }
+        → TellsAttached (path ∷ []) (H.view host.old) (H.view host.new) }
     ensures read_fault { HasCauseOf (result ≡ Status.ReadFault) (H.view host.old).streams.input_faults (H.view host.new).streams.input_faults }
     ensures write_fault { HasCauseOf (result ≡ Status.WriteFault) (H.view host.old).streams.output_faults (H.view host.new).streams.output_faults }
     ensures device_fault { result ≡ Status.DeviceFault
@@ -159,12 +169,15 @@ pub fn run_within<H: Host>(alloc: Global, words: &[String], host: &mut H, limit:
     ensures too_much_always { H.tells.output → (H.view host.new).streams.taken ≡ (H.view host.old).streams.taken + limit
         → (result ≡ Status.TooMuchInput) ⊎ (result ≡ Status.NoMemory) }
     ensures most { H.tells.output → (H.view host.new).streams.taken ≤ (H.view host.old).streams.taken + limit }
+    ensures ready_first { H.tells.output → (added : List TakeStamp) → (H.view host.new).streams.takes ≡ (H.view host.old).streams.takes ++ added
+        → All (λ (t : TakeStamp). length (H.view host.old).streams.output < t.given) added }
     ensures done { result ≡ Status.Done → TellsAll H.tells → (found : Site) → site_found device_count (H.view host.old).reads ≡ Some found
         → IsDone (H.view host.old) (H.view host.new) found }
     ensures stop { TellsAll H.tells → AreSettled device_count (H.view host.old) → (found : Site) → site_found device_count (H.view host.old).reads ≡ Some found
         → can_boot found ≡ true → IsCrashSafe (H.view host.old) (H.view host.new) found }
     ensures complete { result ≢ Status.Usage → H.tells.reads → is_bootable (site_found device_count (H.view host.old).reads) ≡ true
         → NoneRose (H.view host.old) (H.view host.new) → IsComplete result }
+    ensures others { LeavesOthers (H.view host.old) (H.view host.new) }
 {
     match device_path(words) {
         None => Status::Usage,
@@ -194,9 +207,12 @@ pub fn run<H: Host>(alloc: Global, words: &[String], host: &mut H) -> Status
         → H.tells.reads → is_bootable (site_found device_count (H.view host.old).reads) ≡ true }
     ensures left_alone { H.tells.reads → is_bootable (site_found device_count (H.view host.old).reads) ≡ false → IsLeftAlone (H.view host.old) (H.view host.new) }
 
-    // Where line 0 was given, the device was attached by its word then.
+    // Every byte is given while the device is attached by its word.
     ensures attached { H.tells.output → (path : List ℕ) → device_word (map string_bytes words.now) ≡ Some path
-        → BeginsAttached (path ∷ []) (H.view host.old) (H.view host.new) }
+        → TellsAttached (path ∷ []) (H.view host.old) (H.view host.new) }
+
+    // A device that no word names is left alone.
+    ensures others { LeavesOthers (H.view host.old) (H.view host.new) }
 
     // The input or the output failed, exactly where its count rose; or a device, before anything was given.
     ensures read_fault { HasCauseOf (result ≡ Status.ReadFault) (H.view host.old).streams.input_faults (H.view host.new).streams.input_faults }
@@ -204,6 +220,10 @@ pub fn run<H: Host>(alloc: Global, words: &[String], host: &mut H) -> Status
     ensures device_fault { result ≡ Status.DeviceFault
         → Rose (H.view host.old).faults (H.view host.new).faults × ((H.view host.new).streams.output ≡ (H.view host.old).streams.output) }
     ensures line_0 { H.tells.output → FailsInLine0 (result ≡ Status.DeviceFault) (H.view host.old) (H.view host.new) }
+
+    // Line 0 is given before the first byte of the script is taken.
+    ensures ready_first { H.tells.output → (added : List TakeStamp) → (H.view host.new).streams.takes ≡ (H.view host.old).streams.takes ++ added
+        → All (λ (t : TakeStamp). length (H.view host.old).streams.output < t.given) added }
 
     // 4,294,967,296 bytes were taken, and the script did not end before.
     ensures too_much { result ≡ Status.TooMuchInput → H.tells.output → (H.view host.new).streams.taken ≡ (H.view host.old).streams.taken + 4294967296 }

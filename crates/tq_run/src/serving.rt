@@ -8,13 +8,14 @@ ghost use Rattle.tq_model.specs.MachineWithFaults.{Failures};
 ghost use Rattle.tq_model.specs.Step.{step};
 ghost use Rattle.tq_model.specs.Text.{line_text};
 ghost use Rattle.tq_model.specs.Grammar.{line_request, script_requests};
+ghost use Rattle.tq_run.specs.Frame.{LeavesOthers};
 ghost use Rattle.tq_run.specs.Counts.{HasCounts, HasRunCounts, run_end_of_line};
 ghost use Rattle.tq_run.specs.Stops.{ImagesMatch, HasNoNewImage};
 ghost use Rattle.tq_run.specs.Turns.{Origin, RunsOver};
 ghost use Rattle.tq_run.specs.Standing.{next_of, StateImagesMatch, HasReached, HasRun};
 ghost use Rattle.tq_run.specs.Manager.{site_of};
 ghost use Rattle.tq_run.specs.Serving.{IsServed, ChangesOnce, CountsFailure};
-ghost use Rattle.tq_run.specs.Output.{TellsMore, KeepsInput};
+ghost use Rattle.tq_run.specs.Output.{TellsMore, StaysAttached, KeepsInput};
 ghost use Rattle.tq_model.specs.Site.{Site, durable};
 
 use crate::calls::serve_call;
@@ -30,6 +31,7 @@ use tq_model::{Answer, Request};
 use tq_script::{first_line, parse};
 
 // Gives the answer of a line.
+#[tactic(auto, using(crate::proofs::FrameLemmas::others_giving, crate::proofs::AttachLemmas::stays_giving, crate::proofs::AttachLemmas::stays_same))]
 pub fn give_answer<H: Host>(
     alloc: Global,
     host: &mut H,
@@ -38,6 +40,7 @@ pub fn give_answer<H: Host>(
 ) -> Result<(), LineEnd>
     ensures gave { OnOk result (H.tells.output → IsGiven (length (line_text line answer.now)) (line_text line answer.now) (H.view host.old) (H.view host.new)) }
     ensures some { H.tells.output → (k : ℕ) × IsGiven k (line_text line answer.now) (H.view host.old) (H.view host.new) }
+    ensures attached { H.tells.output → StaysAttached (H.view host.old) (H.view host.new) }
     ensures input { KeepsInput (H.view host.old) (H.view host.new) }
     ensures still { (d : ℕ) → (H.view host.new).reads d ≡ (H.view host.old).reads d }
     ensures faults { (H.view host.new).faults ≡ (H.view host.old).faults }
@@ -45,6 +48,7 @@ pub fn give_answer<H: Host>(
     ensures images { HasNoNewImage (H.view host.old) (H.view host.new) }
     ensures counts { HasCounts run_end_of_line result (H.view host.old) (H.view host.new) }
     ensures clock { OnOk result ((H.view host.new).clock ≡ next_count (H.view host.old).clock) }
+    ensures others { LeavesOthers (H.view host.old) (H.view host.new) }
 {
     let text = tq_print::answer(alloc, line, answer)?;
     host.give(&text).map_err(|_| LineEnd::Output)
@@ -99,6 +103,7 @@ pub fn serve<H: Host>(
 }
 
 // Answers one line.
+#[tactic(auto, using(crate::proofs::FrameLemmas::others_on, crate::proofs::AttachLemmas::stays_same, crate::proofs::AttachLemmas::stays_beside, crate::proofs::AttachLemmas::stays_on))]
 fn serve_line<H: Host>(
     alloc: Global,
     host: &mut H,
@@ -115,9 +120,11 @@ fn serve_line<H: Host>(
     ensures stop { TellsAll H.tells → (o : Origin) (found : Site) (failed : Failures) (done : List Request) → number ≡ length done
         → HasReached o found failed done state.old (H.view host.old) → RunsOver o found failed (done ++ line_request line.now ∷ []) (H.view host.old) (H.view host.new) }
     ensures told { H.tells.output → TellsMore (H.view host.old) (H.view host.new) }
+    ensures attached { H.tells.output → StaysAttached (H.view host.old) (H.view host.new) }
     ensures input { KeepsInput (H.view host.old) (H.view host.new) }
     ensures later { (H.view host.old).faults ≤ (H.view host.new).faults }
     ensures counts { HasRunCounts run_end_of_line result (H.view host.old) (H.view host.new) }
+    ensures others { LeavesOthers (H.view host.old) (H.view host.new) }
 {
     let request = parse(alloc, line)?;
     let answer = respond(alloc, host, state, request)?;
@@ -125,7 +132,7 @@ fn serve_line<H: Host>(
 }
 
 /// Answers the lines of a script, from line 1 on, in whatever state the run is.
-#[tactic(auto, using(crate::proofs::LineByLineLemmas::tells_on))]
+#[tactic(auto, using(crate::proofs::LineByLineLemmas::tells_on, crate::proofs::AttachLemmas::stays_on))]
 pub fn serve_lines<H: Host>(
     alloc: Global,
     host: &mut H,
@@ -139,9 +146,11 @@ pub fn serve_lines<H: Host>(
     ensures stop { TellsAll H.tells → (o : Origin) (found : Site) (failed : Failures) (first : Request)
         → HasReached o found failed (first ∷ []) state.old (H.view host.old) → RunsOver o found failed (first ∷ script_requests script.now) (H.view host.old) (H.view host.new) }
     ensures told { H.tells.output → TellsMore (H.view host.old) (H.view host.new) }
+    ensures attached { H.tells.output → StaysAttached (H.view host.old) (H.view host.new) }
     ensures input { KeepsInput (H.view host.old) (H.view host.new) }
     ensures later { (H.view host.old).faults ≤ (H.view host.new).faults }
     ensures counts { HasRunCounts run_end_of_line result (H.view host.old) (H.view host.new) }
+    ensures others { LeavesOthers (H.view host.old) (H.view host.new) }
 {
     let mut rest = script;
     let mut number = 1;

@@ -6,6 +6,7 @@ use Rattle.tq_run.specs.Manager.{site_of}
 use Rattle.tq_run.specs.Serving.{ChangesOnce}
 use Rattle.tq_run.specs.SpaceCalls.{space_name, outcome_of}
 use Rattle.tq_run.proofs.DeviceStopLemmas.{stays, told_stops}
+use Rattle.tq_run.proofs.FrameLemmas.{others_of_call}
 use Rattle.tq_run.proofs.CallStepLemmas.{IsNamedIn, named_in, behind, takes_nothing, within_call, after_call}
 use Rattle.tq_run.proofs.calls.call_space.Given.{Over}
 use Rattle.tq_run.proofs.calls.call_space.Goals as goal
@@ -24,7 +25,7 @@ call_file-requires-clause-behind g c =
 stops : (g : Over) (c : After-call_file g) (at : IsNamedIn c.args.manager.now (space_name c.args.call) c.in-Some.file)
     → ChangesOnce (on_space (space_name c.args.call) (outcome_of c.args.call) (site_of c.args.manager.now)) c.args.manager.now (g.H.Host.view c.args.host.now) (g.H.Host.view c.call_file.new.host)
 stops g c at =
-    told_stops _ _ _ _ (g.met.H.Host.lawful c.call_file.new.host) c.call_file.ensures.failed.rest (λ t. record { within = within_call c.args.manager.now c.args.call c.in-Some.file c.in-Some.is at c.next_arrival-next.result c.next_arrival-next.ensures _ _ c.requires.on (c.call_file.ensures.stop t); attached = c.call_file.ensures.failed.rest.attached })
+    told_stops _ _ _ _ (g.met.H.Host.lawful c.call_file.new.host) c.call_file.ensures.failed.rest (λ t. record { within = within_call c.args.manager.now c.args.call c.in-Some.file c.in-Some.is at c.next_arrival-next.result c.next_arrival-next.ensures _ _ c.requires.on (c.call_file.ensures.stop t); attached = c.call_file.ensures.failed.rest.attached; others = others_of_call _ _ _ _ (c.call_file.ensures.stop t) c.call_file.ensures.failed.rest })
 
 pub returns-in_err-reply-clause-stop : goal.returns-in_err-reply-clause-stop
 returns-in_err-reply-clause-stop g c = let at = goal.at.returns-in_err-reply-clause-stop g c in stops g at.After-call_file (named g at.In-Some)

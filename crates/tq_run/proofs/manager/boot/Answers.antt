@@ -7,6 +7,7 @@ use Rattle.tq_run.proofs.FoundLemmas.{booted_blank, damaged_device}
 use Rattle.tq_run.proofs.DeviceStopLemmas.{settled_all}
 use Rattle.tq_run.proofs.RunDeviceLemmas.{same_found}
 use Rattle.tq_run.proofs.BootStopLemmas.{still_old, looking_booting, booted_from}
+use Rattle.tq_run.proofs.FrameLemmas.{others_on, others_of_call}
 use Rattle.tq_run.proofs.LeftAloneLemmas.{left_alone, alone_on}
 use Rattle.tq_run.proofs.manager.boot.Goals as goal
 
@@ -70,3 +71,6 @@ returns-in-Holds-clause-left_alone g c = λ t none.
 
 pub returns-in-Holds-clause-memory : goal.returns-in-Holds-clause-memory
 returns-in-Holds-clause-memory g c = λ e. alone_on _ _ _ (left_alone _ _ c.look.ensures.stop) (c.boot_content.ensures.memory e)
+
+pub returns-in-Holds-clause-others : goal.returns-in-Holds-clause-others
+returns-in-Holds-clause-others g c = others_on _ _ _ (others_of_call _ _ _ _ c.look.ensures.stop c.look.ensures.rest) (c.boot_content.ensures.others c.in_ok-look.ensures.settled)

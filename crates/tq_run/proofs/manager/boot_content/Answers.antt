@@ -5,6 +5,8 @@ use Rattle.tq_host.specs.Within.{WithinAll}
 use Rattle.tq_run.specs.Manager.{IsLoaded}
 use Rattle.tq_run.proofs.FoundLemmas.{booted_raised, last_not_bootable}
 use Rattle.tq_run.proofs.BootStopLemmas.{only_looking, looking_raising}
+use Rattle.tq_run.proofs.DeviceStopLemmas.{settled_all}
+use Rattle.tq_run.proofs.FrameLemmas.{others_on, others_of_call}
 use Rattle.tq_run.proofs.LeftAloneLemmas.{left_alone, not_bootable}
 use Rattle.tq_run.proofs.manager.boot_content.Goals as goal
 
@@ -34,3 +36,9 @@ returns-clause-left_alone g c = λ t none.
 
 pub returns-clause-memory : goal.returns-clause-memory
 returns-clause-memory g c = λ e. absurd (c.raise.ensures.memory e)
+
+pub returns-clause-others : goal.returns-clause-others
+returns-clause-others g c = λ settled.
+    let does = c.load_space.ensures in
+    let loaded = settled_all (IsLoaded c.args.content.now c.in_ok-file.file) _ (g.met.H.Host.lawful c.args.host.now) settled c.in_ok-file.ensures.loaded in
+    others_on _ _ _ (others_of_call _ _ _ _ does.stop does.rest) (c.raise.ensures.others (λ image may. loaded image (does.images 0 image may)))

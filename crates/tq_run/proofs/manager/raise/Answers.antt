@@ -7,6 +7,7 @@ use Rattle.tq_run.specs.Manager.{site_with, IsContentOn}
 use Rattle.tq_run.proofs.FoundLemmas.{can_raise, found_have, loaded_found}
 use Rattle.tq_run.proofs.DeviceStopLemmas.{settled_all}
 use Rattle.tq_run.proofs.BootStopLemmas.{raising, raised_on, booted_is}
+use Rattle.tq_run.proofs.FrameLemmas.{others_of_call}
 use Rattle.tq_run.proofs.LeftAloneLemmas.{contradicts}
 use Rattle.tq_run.proofs.manager.raise.Goals as goal
 
@@ -41,3 +42,9 @@ returns-in_err-raised-clause-left_alone g c = λ none. contradicts _ (can_raise 
 
 pub returns-clause-left_alone : goal.returns-clause-left_alone
 returns-clause-left_alone g c = λ none. contradicts _ (can_raise c.args.content.now c.args.file (search rules)) none
+
+pub returns-in_err-raised-clause-others : goal.returns-in_err-raised-clause-others
+returns-in_err-raised-clause-others g c = λ loaded. others_of_call _ _ _ _ (c.raise_epoch.ensures.stop (λ i may. (loaded i may).stands)) c.raise_epoch.ensures.rest
+
+pub returns-clause-others : goal.returns-clause-others
+returns-clause-others g c = λ loaded. others_of_call _ _ _ _ (c.raise_epoch.ensures.stop (λ i may. (loaded i may).stands)) c.raise_epoch.ensures.rest

@@ -9,7 +9,8 @@ use Rattle.tq_run.specs.Standing.{HasRun, HasStarted}
 use Rattle.tq_run.proofs.CountLemmas.{err_is, same_Err, quiet_calm, stop_counts, run_counts_on}
 use Rattle.tq_run.proofs.LineByLineLemmas.{over_front, then_over, run_started, is_done}
 use Rattle.tq_run.proofs.StatusLemmas.{line_0_ended, line_0_begun}
-use Rattle.tq_run.proofs.LeftAloneLemmas.{attached_later}
+use Rattle.tq_run.proofs.TakeLemmas.{taken_behind}
+use Rattle.tq_run.proofs.AttachLemmas.{attached_on}
 use Rattle.tq_run.proofs.running.attend.Goals as goal
 
 not_ok : {T E : Type 0} (r : Result T E) (x : T) (end : E) → r ≡ Ok x → r ≡ Err end → ⊥
@@ -74,11 +75,11 @@ returns-in_err-answer_script-clause-counts g c =
 
 pub returns-in_err-answer_script-clause-attached : goal.returns-in_err-answer_script-clause-attached
 returns-in_err-answer_script-clause-attached g c = λ t.
-    attached_later (c.args.path.now ∷ []) (g.H.Host.view c.args.host.now) (g.H.Host.view c.begin.new.host) (g.H.Host.view c.answer_script.new.host) (c.in_ok-state.ensures.begun t) (c.answer_script.ensures.told t) (c.begin.ensures.attached t)
+    attached_on (c.args.path.now ∷ []) (g.H.Host.view c.args.host.now) (g.H.Host.view c.begin.new.host) (g.H.Host.view c.answer_script.new.host) (c.begin.ensures.told t) (c.begin.ensures.attached t) (c.in_ok-state.ensures.named t) (c.answer_script.ensures.attached t)
 
 pub returns-clause-attached : goal.returns-clause-attached
 returns-clause-attached g c = λ t.
-    attached_later (c.args.path.now ∷ []) (g.H.Host.view c.args.host.now) (g.H.Host.view c.begin.new.host) (g.H.Host.view c.answer_script.new.host) (c.in_ok-state.ensures.begun t) (c.answer_script.ensures.told t) (c.begin.ensures.attached t)
+    attached_on (c.args.path.now ∷ []) (g.H.Host.view c.args.host.now) (g.H.Host.view c.begin.new.host) (g.H.Host.view c.answer_script.new.host) (c.begin.ensures.told t) (c.begin.ensures.attached t) (c.in_ok-state.ensures.named t) (c.answer_script.ensures.attached t)
 
 pub returns-in_err-answer_script-clause-line_0 : goal.returns-in_err-answer_script-clause-line_0
 returns-in_err-answer_script-clause-line_0 g c = λ t.
@@ -87,3 +88,11 @@ returns-in_err-answer_script-clause-line_0 g c = λ t.
 pub returns-clause-line_0 : goal.returns-clause-line_0
 returns-clause-line_0 g c = λ t.
     line_0_begun _ (g.H.Host.view c.args.host.now) (g.H.Host.view c.begin.new.host) (g.H.Host.view c.answer_script.new.host) (c.in_ok-state.ensures.begun t) (c.answer_script.ensures.told t)
+
+pub returns-in_err-answer_script-clause-ready_first : goal.returns-in_err-answer_script-clause-ready_first
+returns-in_err-answer_script-clause-ready_first g c = λ t.
+    taken_behind (g.H.Host.view c.args.host.now).streams (g.H.Host.view c.begin.new.host).streams (g.H.Host.view c.answer_script.new.host).streams (c.in_ok-state.ensures.begun t).output c.begin.ensures.input.takes (c.answer_script.ensures.takes t)
+
+pub returns-clause-ready_first : goal.returns-clause-ready_first
+returns-clause-ready_first g c = λ t.
+    taken_behind (g.H.Host.view c.args.host.now).streams (g.H.Host.view c.begin.new.host).streams (g.H.Host.view c.answer_script.new.host).streams (c.in_ok-state.ensures.begun t).output c.begin.ensures.input.takes (c.answer_script.ensures.takes t)

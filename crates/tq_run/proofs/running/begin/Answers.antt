@@ -13,12 +13,16 @@ use Rattle.tq_run.proofs.RunDeviceLemmas.{same_found}
 use Rattle.tq_model.proofs.LineText.{length-line_text}
 use Rattle.tq_run.proofs.Line0Lemmas.{attach_over, boot_ended, first_over, first_started, calm_none, calm_given, begun_given}
 use Rattle.tq_run.proofs.CountLemmas.{at_err, err_is, same_Err, damaged_boot}
-use Rattle.tq_run.proofs.LeftAloneLemmas.{alone_on, alone_attached, attached_none, attached_given, one_attached}
+use Rattle.tq_run.specs.Output.{AreAttached, TellsAttached}
+use Rattle.tq_run.proofs.LeftAloneLemmas.{alone_on, alone_attached}
+use Rattle.tq_run.proofs.AttachLemmas.{attached_none, attached_given, one_attached}
 use Rattle.tq_model.specs.Site.{Site}
 use Rattle.tq_model.specs.Reading.{site_found}
 use Rattle.tq_model.specs.declared.request.Request.TheVariants.{Boot}
 use Rattle.tq_run.specs.Turns.{RunsOver, origin_of, none_failed}
 use Rattle.tq_run.specs.Words.{device_count}
+use Rattle.tq_run.specs.Frame.{LeavesOthers}
+use Rattle.tq_run.proofs.FrameLemmas.{others_on, others_attached}
 use Rattle.tq_run.proofs.running.begin.Given.{Over}
 use Rattle.tq_run.proofs.running.begin.Goals as goal
 use Rattle.tq_run.proofs.running.begin.Goals.{After-give_answer}
@@ -115,21 +119,24 @@ returns-in_err-manager-clause-left_alone g c = λ t none.
     alone_on a b (g.H.Host.view c.boot.new.host) (alone_attached a b c.attach.result c.attach.ensures.call c.attach.ensures.attached)
     (c.boot.ensures.left_alone t (ap is_bootable (same_found b.reads a.reads (c.attach.ensures.attached.reads 0)) ∙ none))
 
+-- the device is attached by its word behind the boot
+named : (g : Over) (c : After-give_answer g) → g.H.Host.tells.output → AreAttached (c.args.path.now ∷ []) (g.H.Host.view c.boot.new.host).attached
+named g c t = one_attached c.args.path.now (g.H.Host.view c.boot.new.host).attached (ap (λ (f : ℕ → Option (List ℕ)). f 0) c.boot.ensures.rest.attached ∙ c.in_ok-attach.ensures.attached.own t)
+
+attached : (g : Over) (c : After-give_answer g) → g.H.Host.tells.output → TellsAttached (c.args.path.now ∷ []) (g.H.Host.view c.args.host.now) (g.H.Host.view c.give_answer.new.host)
+attached g c t =
+    let same = ap (λ (s : Streams). s.stamps) (c.boot.ensures.rest.streams ∙ c.attach.ensures.call.streams) in
+    attached_given (c.args.path.now ∷ []) (g.H.Host.view c.args.host.now) (g.H.Host.view c.boot.new.host) (g.H.Host.view c.give_answer.new.host) same (named g c t) (c.give_answer.ensures.attached t)
+
 pub returns-in_err-give_answer-clause-attached : goal.returns-in_err-give_answer-clause-attached
-returns-in_err-give_answer-clause-attached g c = λ t.
-    let d = g.H.Host.view c.boot.new.host in
-    let own = c.in_ok-attach.ensures.attached.own t in
-    let some = c.give_answer.ensures.some t in
-    attached_given (c.args.path.now ∷ []) (g.H.Host.view c.args.host.now) d (g.H.Host.view c.give_answer.new.host) some.0 _ (c.boot.ensures.rest.streams ∙ c.attach.ensures.call.streams)
-    (one_attached c.args.path.now d.attached (ap (λ (f : ℕ → Option (List ℕ)). f 0) c.boot.ensures.rest.attached ∙ own)) some.1
+returns-in_err-give_answer-clause-attached g c = attached g (goal.at.returns-in_err-give_answer-clause-attached g c).After-give_answer
 
 pub returns-clause-attached : goal.returns-clause-attached
-returns-clause-attached g c = λ t.
-    let d = g.H.Host.view c.boot.new.host in
-    let own = c.in_ok-attach.ensures.attached.own t in
-    let some = c.give_answer.ensures.some t in
-    attached_given (c.args.path.now ∷ []) (g.H.Host.view c.args.host.now) d (g.H.Host.view c.give_answer.new.host) some.0 _ (c.boot.ensures.rest.streams ∙ c.attach.ensures.call.streams)
-    (one_attached c.args.path.now d.attached (ap (λ (f : ℕ → Option (List ℕ)). f 0) c.boot.ensures.rest.attached ∙ own)) some.1
+returns-clause-attached g c = attached g (goal.at.returns-clause-attached g c).After-give_answer
+
+pub returns-clause-named : goal.returns-clause-named
+returns-clause-named g c = λ t.
+    subst (AreAttached (c.args.path.now ∷ [])) (sym (c.give_answer.ensures.attached t).attached) (named g (goal.at.returns-clause-named g c).After-give_answer t)
 
 pub returns-in_err-attach-clause-attached : goal.returns-in_err-attach-clause-attached
 returns-in_err-attach-clause-attached g c = λ t.
@@ -138,3 +145,12 @@ returns-in_err-attach-clause-attached g c = λ t.
 pub returns-in_err-manager-clause-attached : goal.returns-in_err-manager-clause-attached
 returns-in_err-manager-clause-attached g c = λ t.
     attached_none (c.args.path.now ∷ []) (g.H.Host.view c.args.host.now) (g.H.Host.view c.boot.new.host) (ap (λ (s : Streams). s.stamps) (c.boot.ensures.rest.streams ∙ c.attach.ensures.call.streams))
+
+beside : (g : Over) (c : After-give_answer g) → LeavesOthers (g.H.Host.view c.args.host.now) (g.H.Host.view c.give_answer.new.host)
+beside g c = others_on _ _ _ (others_attached _ _ c.attach.result c.attach.ensures.call c.attach.ensures.attached) (others_on _ _ _ c.boot.ensures.others c.give_answer.ensures.others)
+
+pub returns-in_err-give_answer-clause-others : goal.returns-in_err-give_answer-clause-others
+returns-in_err-give_answer-clause-others g c = beside g (goal.at.returns-in_err-give_answer-clause-others g c).After-give_answer
+
+pub returns-clause-others : goal.returns-clause-others
+returns-clause-others g c = beside g (goal.at.returns-clause-others g c).After-give_answer

@@ -16,8 +16,9 @@ use Rattle.tq_run.proofs.CountLemmas.{some_is, read_cause, write_cause}
 use Rattle.tq_run.proofs.LineByLineLemmas.{on_none, is_safe}
 use Rattle.tq_run.proofs.StatusLemmas.{blames_first, is_damaged_at, damaged_always, complete, done, is_device}
 use Rattle.tq_run.proofs.TurnLemmas.{starts_answered}
-use Rattle.tq_run.specs.Output.{BeginsAttached}
-use Rattle.tq_run.proofs.LeftAloneLemmas.{contradicts, is_left_alone, alone_start, attached_none}
+use Rattle.tq_run.specs.Output.{TellsAttached}
+use Rattle.tq_run.proofs.LeftAloneLemmas.{contradicts, is_left_alone, alone_start}
+use Rattle.tq_run.proofs.AttachLemmas.{attached_none}
 use Rattle.tq_run.proofs.running.run_within.Goals as goal
 
 pub returns-in-None-clause-line_0 : goal.returns-in-None-clause-line_0
@@ -104,4 +105,4 @@ returns-in-None-clause-attached g c = λ t path is.
 pub returns-in-Some-clause-attached : goal.returns-in-Some-clause-attached
 returns-in-Some-clause-attached g c = λ t path is.
     let word : Some c.in-Some.path.now ≡ Some path = ap option_copied (sym c.in-Some.is) ∙ c.device_path.ensures ∙ is in
-    subst (λ (l : List ℕ). BeginsAttached (l ∷ []) (g.H.Host.view c.args.host.now) (g.H.Host.view c.attend.new.host)) (some_is _ _ word) (c.attend.ensures.attached t)
+    subst (λ (l : List ℕ). TellsAttached (l ∷ []) (g.H.Host.view c.args.host.now) (g.H.Host.view c.attend.new.host)) (some_is _ _ word) (c.attend.ensures.attached t)

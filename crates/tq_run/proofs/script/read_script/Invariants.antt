@@ -1,8 +1,9 @@
 use Rattle.std.proofs.Common.{◌≡◌, ◌+◌, ◌++◌, length}
 use Rattle.tq_host.specs.Within.{Ran}
+use Rattle.tq_run.specs.Frame.{LeavesOthers}
 use Rattle.tq_run.specs.Counts.{IsQuiet}
 use Rattle.tq_run.specs.Stops.{HasNoNewImage, IsWaiting}
-use Rattle.tq_run.specs.Input.{TakesOnly}
+use Rattle.tq_run.specs.Input.{TakesOnly, TakesWith}
 use Rattle.tq_run.proofs.script.read_script.Given as goal
 
 abbrev pub invariant-loop-left : goal.invariant-loop-left
@@ -14,6 +15,8 @@ invariant-loop-left g l =
       taken : g.H.Host.tells.output → now.streams.taken + l.left ≡ start.streams.taken + l.fn.limit;
       short : length l.script.items + l.left ≡ l.fn.limit;
       still : TakesOnly start now;
+      takes : g.H.Host.tells.output → TakesWith (length start.streams.output) start.streams now.streams;
+      others : LeavesOthers start now;
       waits : Ran (IsWaiting start) start now;
       images : HasNoNewImage start now;
       quiet : IsQuiet start now;

@@ -3,6 +3,8 @@ use Rattle.std.specs.Prelude.{map}
 use Rattle.tq_model.specs.Grammar.{script_lines, script_requests, line_request}
 use Rattle.tq_run.specs.Counts.{IsCalm}
 use Rattle.tq_run.proofs.CountLemmas.{calm, calm_on}
+use Rattle.tq_run.proofs.AttachLemmas.{stays_same, stays_on}
+use Rattle.tq_run.proofs.FrameLemmas.{others_here, others_on}
 use Rattle.tq_run.proofs.LineByLineLemmas.{IsSoFar, so_far_first, so_far_next, ends_here, over_run, all_run, tells_on, tells_none, requests_first}
 use Rattle.tq_run.proofs.serving.serve_lines.Goals as goal
 
@@ -16,6 +18,8 @@ loop-line-init g c =
       input = search rules;
       calm = calm start;
       told = λ t. tells_none start start refl;
+      attached = λ t. stays_same start start refl refl;
+      others = others_here start;
       so_far = λ t o found failed first reached. so_far_first o found failed first (script_requests c.args.script.now) c.args.state.now start reached;
     }
 
@@ -37,6 +41,8 @@ loop-line-preserved g c =
       input = search rules;
       calm = calm_on start mid new inv.calm quiet;
       told = λ t. tells_on start mid new (inv.told t) (c.serve_line.ensures.told t);
+      attached = λ t. stays_on start mid new (inv.attached t) (c.serve_line.ensures.attached t);
+      others = others_on start mid new inv.others c.serve_line.ensures.others;
       so_far = λ t o found failed first reached.
           let so_far = inv.so_far t o found failed first reached in
           so_far_next o found failed first (script_requests c.args.script.now) (script_requests rest) (script_requests behind) (line_request line) c.loop-line.number c.loop-line.state start mid new so_far

@@ -4,8 +4,9 @@ use Rattle.tq_model.specs.declared.request.Request.{Request}
 use Rattle.tq_model.specs.MachineWithFaults.{Failures}
 use Rattle.tq_model.specs.Site.{Site}
 use Rattle.tq_model.specs.Grammar.{script_requests}
+use Rattle.tq_run.specs.Frame.{LeavesOthers}
 use Rattle.tq_run.specs.Counts.{IsCalm}
-use Rattle.tq_run.specs.Output.{TellsMore, KeepsInput}
+use Rattle.tq_run.specs.Output.{TellsMore, StaysAttached, KeepsInput}
 use Rattle.tq_run.specs.Turns.{Origin}
 use Rattle.tq_run.specs.Standing.{next_of, StateImagesMatch, HasReached}
 use Rattle.tq_run.proofs.LineByLineLemmas.{IsSoFar}
@@ -22,6 +23,8 @@ invariant-loop-line g l =
       input : KeepsInput start now;
       calm : IsCalm start now;
       told : g.H.Host.tells.output → TellsMore start now;
+      attached : g.H.Host.tells.output → StaysAttached start now;
+      others : LeavesOthers start now;
       so_far : TellsAll g.H.Host.tells → (o : Origin) (found : Site) (failed : Failures) (first : Request) → HasReached o found failed (first ∷ []) l.fn.state start
           → IsSoFar o found failed first (script_requests l.script) (script_requests l.rest) l.number l.state start now;
     }
