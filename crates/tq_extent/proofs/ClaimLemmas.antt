@@ -11,8 +11,9 @@ use Rattle.tq_model.specs.declared.answer.Extent.{Extent}
 use Rattle.tq_model.specs.Reading.{no_two, overlap}
 use Rattle.tq_model.specs.Site.{header_clusters, numbers_from}
 use Rattle.tq_extent.specs.Clusters.{new_clusters, is_free, clusters_of, are_distinct, can_claim}
+use Rattle.tq_extent.specs.Bytes.{has_cluster}
 use Rattle.tq_extent.proofs.ExtentLemmas.{any-numbers_from}
-use Rattle.tq_extent.proofs.ClusterLemmas.{has, are_new, distinct-append, numbers_from-distinct, list_all-same}
+use Rattle.tq_extent.proofs.ClusterLemmas.{are_new, distinct-append, numbers_from-distinct, list_all-same}
 use Rattle.tq_extent.proofs.CountLemmas.{new-owned, length-new}
 
 -- an extent behind the header and within so many clusters
@@ -54,14 +55,14 @@ others-new : (n first : ℕ) (extents : List Extent) → list_all (λ (e : Exten
 others-new n first [] some = refl
 others-new n first (e ∷ extents) some =
     let parts = and_parts (nat_le 1 e.count) (list_all (λ (x : Extent). nat_le 1 x.count) extents) some in
-    let new = λ (k : ℕ). not (has (numbers_from first (suc n)) k) in
+    let new = λ (k : ℕ). not (has_cluster (numbers_from first (suc n)) k) in
     list_all-append new (numbers_from e.first e.count) (clusters_of extents)
     ∙ (λ i. own e.count (leb-true 1 e.count parts.0) i && others-new n first extents parts.1 i)
   where
-    own : (count : ℕ) → 1 ≤ count → list_all (λ k. not (has (numbers_from first (suc n)) k)) (numbers_from e.first count) ≡ not (nat_lt first (e.first + count) && nat_lt e.first (first + suc n))
+    own : (count : ℕ) → 1 ≤ count → list_all (λ k. not (has_cluster (numbers_from first (suc n)) k)) (numbers_from e.first count) ≡ not (nat_lt first (e.first + count) && nat_lt e.first (first + suc n))
     own zero le = absurd (omega arith)
     own (suc more) le =
-        list_all-same (λ k. not (has (numbers_from first (suc n)) k)) (λ k. not (nat_le first k && nat_lt k (first + suc n))) (numbers_from e.first (suc more)) (λ k. ap not (any-numbers_from k first (suc n)))
+        list_all-same (λ k. not (has_cluster (numbers_from first (suc n)) k)) (λ k. not (nat_le first k && nat_lt k (first + suc n))) (numbers_from e.first (suc more)) (λ k. ap not (any-numbers_from k first (suc n)))
         ∙ none-between first (first + suc n) more e.first (omega arith)
 
 -- extents with clusters may be claimed exactly where each lies within the device and no two overlap

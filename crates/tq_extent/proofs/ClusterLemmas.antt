@@ -9,19 +9,16 @@ use Rattle.std.proofs.lemmas.Grind.{fold-append, flat_map-append}
 use Rattle.tq_model.specs.declared.answer.Extent.{Extent}
 use Rattle.tq_model.specs.Site.{Volume, header_clusters, numbers_from, covers, is_taken, lowest_free}
 use Rattle.tq_extent.specs.Clusters.{is_free, is_given, free_from, free_in, clusters_of, are_distinct, can_claim, with_mark, IsOf}
+use Rattle.tq_extent.specs.Bytes.{has_cluster}
 use Rattle.tq_extent.proofs.ExtentLemmas.{any-numbers_from, any-clusters_of}
 
 -- ---- tests of all numbers of a list
 
--- whether this number stands in the list
-abbrev pub has : List ℕ → ℕ → Bool
-has numbers k = list_any (λ x. x == k) numbers
-
-pub all-at : (test : ℕ → Bool) (numbers : List ℕ) (k : ℕ) → list_all test numbers ≡ true → has numbers k ≡ true → test k ≡ true
+pub all-at : (test : ℕ → Bool) (numbers : List ℕ) (k : ℕ) → list_all test numbers ≡ true → has_cluster numbers k ≡ true → test k ≡ true
 all-at test [] k all any = absurd (cc)
 all-at test (x ∷ numbers) k all any =
     let parts = and_parts (test x) (list_all test numbers) all in
-    elim (or_cases (x == k) (has numbers k) any) [
+    elim (or_cases (x == k) (has_cluster numbers k) any) [
       | inl same ↦ subst (λ (y : ℕ). test y ≡ true) (eqb-true x k same) parts.0
       | inr later ↦ all-at test numbers k parts.1 later
     ]
@@ -217,7 +214,7 @@ same-cond : {X : Type 0} (b : Bool) (x : X) → cond b x x ≡ x
 same-cond true x = refl
 same-cond false x = refl
 
-pub get_or-with_mark : (mark : Bool) (clusters : List ℕ) (owned : List Bool) (k : ℕ) (d : Bool) → k < length owned → get_or (with_mark mark clusters owned) k d ≡ cond (has clusters k) mark (get_or owned k d)
+pub get_or-with_mark : (mark : Bool) (clusters : List ℕ) (owned : List Bool) (k : ℕ) (d : Bool) → k < length owned → get_or (with_mark mark clusters owned) k d ≡ cond (has_cluster clusters k) mark (get_or owned k d)
 get_or-with_mark mark [] owned k d lt = refl
 get_or-with_mark mark (x ∷ clusters) owned k d lt =
     let size = length-set owned x mark in
@@ -225,10 +222,10 @@ get_or-with_mark mark (x ∷ clusters) owned k d lt =
     elim (cases_eq x k) [
       | inl same ↦
           let here : get_or (set owned x mark) k d ≡ mark = subst (λ (y : ℕ). get_or (set owned y mark) k d ≡ mark) (sym same) (get_or-set_same owned k mark d lt) in
-          rest ∙ ap (cond (has clusters k) mark) here ∙ same-cond (has clusters k) mark ∙ ap (λ b. cond (b || has clusters k) mark (get_or owned k d)) (sym (eq-eqb x k same))
+          rest ∙ ap (cond (has_cluster clusters k) mark) here ∙ same-cond (has_cluster clusters k) mark ∙ ap (λ b. cond (b || has_cluster clusters k) mark (get_or owned k d)) (sym (eq-eqb x k same))
       | inr differs ↦
-          rest ∙ ap (cond (has clusters k) mark) (get_or-set_other owned x k mark d (λ same. differs (sym same)))
-          ∙ ap (λ b. cond (b || has clusters k) mark (get_or owned k d)) (sym (ne_eqb x k differs))
+          rest ∙ ap (cond (has_cluster clusters k) mark) (get_or-set_other owned x k mark d (λ same. differs (sym same)))
+          ∙ ap (λ b. cond (b || has_cluster clusters k) mark (get_or owned k d)) (sym (ne_eqb x k differs))
     ]
 
 or-cond : (a b : Bool) → cond a true b ≡ (a || b)
@@ -240,12 +237,12 @@ or-true true = refl
 or-true false = refl
 
 -- what has an owner after clusters were given
-pub owned-with_mark : (clusters : List ℕ) (owned : List Bool) (k : ℕ) → get_or (with_mark true clusters owned) k true ≡ (has clusters k || get_or owned k true)
+pub owned-with_mark : (clusters : List ℕ) (owned : List Bool) (k : ℕ) → get_or (with_mark true clusters owned) k true ≡ (has_cluster clusters k || get_or owned k true)
 owned-with_mark clusters owned k = elim (cases_lt k (length owned)) [
-  | inl lt ↦ get_or-with_mark true clusters owned k true lt ∙ or-cond (has clusters k) (get_or owned k true)
+  | inl lt ↦ get_or-with_mark true clusters owned k true lt ∙ or-cond (has_cluster clusters k) (get_or owned k true)
   | inr past ↦
       let size = length-with_mark true clusters owned in
-      get_or_past (with_mark true clusters owned) k true (omega (arith, size)) ∙ or-true (has clusters k) ∙ ap (λ b. has clusters k || b) (sym (get_or_past owned k true past))
+      get_or_past (with_mark true clusters owned) k true (omega (arith, size)) ∙ or-true (has_cluster clusters k) ∙ ap (λ b. has_cluster clusters k || b) (sym (get_or_past owned k true past))
 ]
 
 pub owned-with_extents : (extents : List Extent) (owned : List Bool) (k : ℕ) → get_or (with_mark true (clusters_of extents) owned) k true ≡ (list_any (covers k) extents || get_or owned k true)
@@ -276,8 +273,8 @@ is_of-given_back v w extents owned is same taken = record {
     tests true b = refl
     tests false b = refl
 
-pub free-with_mark : (clusters : List ℕ) (owned : List Bool) (k : ℕ) → is_free k (with_mark true clusters owned) ≡ (is_free k owned && not (has clusters k))
-free-with_mark clusters owned k = ap (λ b. nat_le header_clusters k && not b) (owned-with_mark clusters owned k) ∙ tests (nat_le header_clusters k) (has clusters k) (get_or owned k true)
+pub free-with_mark : (clusters : List ℕ) (owned : List Bool) (k : ℕ) → is_free k (with_mark true clusters owned) ≡ (is_free k owned && not (has_cluster clusters k))
+free-with_mark clusters owned k = ap (λ b. nat_le header_clusters k && not b) (owned-with_mark clusters owned k) ∙ tests (nat_le header_clusters k) (has_cluster clusters k) (get_or owned k true)
   where
     tests : (a b c : Bool) → (a && not (b || c)) ≡ ((a && not c) && not b)
     tests true true true = refl
@@ -294,10 +291,10 @@ with_mark-undone clusters owned all =
     (λ k lt.
     let within : k < length owned = subst (λ (n : ℕ). k < n) (length-with_mark false clusters (with_mark true clusters owned) ∙ size) lt in
     get_or-with_mark false clusters (with_mark true clusters owned) k false (omega (arith, size))
-    ∙ ap (cond (has clusters k) false) (get_or-with_mark true clusters owned k false within)
-    ∙ by_test k within (has clusters k) refl)
+    ∙ ap (cond (has_cluster clusters k) false) (get_or-with_mark true clusters owned k false within)
+    ∙ by_test k within (has_cluster clusters k) refl)
   where
-    by_test : (k : ℕ) → k < length owned → (b : Bool) → has clusters k ≡ b → cond b false (cond b true (get_or owned k false)) ≡ get_or owned k false
+    by_test : (k : ℕ) → k < length owned → (b : Bool) → has_cluster clusters k ≡ b → cond b false (cond b true (get_or owned k false)) ≡ get_or owned k false
     by_test k lt false is = refl
     by_test k lt true is =
         let none = not-true (get_or owned k true) (and_parts (nat_le header_clusters k) (not (get_or owned k true)) (all-at (λ x. is_free x owned) clusters k all is)).1 in
@@ -325,7 +322,7 @@ list_all-same test other (x ∷ numbers) same = λ i. same x i && list_all-same 
 
 -- none of the second is among the first
 abbrev pub are_new : List ℕ → List ℕ → Bool
-are_new xs ys = list_all (λ y. not (has xs y)) ys
+are_new xs ys = list_all (λ y. not (has_cluster xs y)) ys
 
 pub distinct-append : (xs ys : List ℕ) → are_distinct (xs ++ ys) ≡ (are_distinct xs && (are_distinct ys && are_new xs ys))
 distinct-append [] ys = sym (and-true (are_distinct ys)) ∙ ap (λ b. are_distinct ys && b) (sym (none ys))
@@ -337,7 +334,7 @@ distinct-append (x ∷ xs) ys =
     (λ i. list_all-append (λ y. not (x == y)) xs ys i && distinct-append xs ys i)
     ∙ tests (list_all (λ y. not (x == y)) xs) (list_all (λ y. not (x == y)) ys) (are_distinct xs) (are_distinct ys) (are_new xs ys)
     ∙ ap (λ b. (list_all (λ y. not (x == y)) xs && are_distinct xs) && (are_distinct ys && b))
-    (sym (list_all-same (λ y. not ((x == y) || has xs y)) (λ y. not (x == y) && not (has xs y)) ys (λ y. neither (x == y) (has xs y)) ∙ list_all-both (λ y. not (x == y)) (λ y. not (has xs y)) ys))
+    (sym (list_all-same (λ y. not ((x == y) || has_cluster xs y)) (λ y. not (x == y) && not (has_cluster xs y)) ys (λ y. neither (x == y) (has_cluster xs y)) ∙ list_all-both (λ y. not (x == y)) (λ y. not (has_cluster xs y)) ys))
   where
     neither : (a b : Bool) → not (a || b) ≡ (not a && not b)
     neither true b = refl
@@ -358,7 +355,7 @@ can_claim-append xs ys owned first =
     ∙ (λ i. (parts.0 i && list_all (λ k. is_free k owned) ys) && (parts.1 i && (are_distinct ys && are_new xs ys)))
     ∙ tests (list_all (λ k. is_free k owned) ys) (are_distinct ys) (are_new xs ys)
     ∙ ap (λ b. b && are_distinct ys)
-    (sym (list_all-same (λ k. is_free k (with_mark true xs owned)) (λ k. is_free k owned && not (has xs k)) ys (free-with_mark xs owned) ∙ list_all-both (λ k. is_free k owned) (λ k. not (has xs k)) ys))
+    (sym (list_all-same (λ k. is_free k (with_mark true xs owned)) (λ k. is_free k owned && not (has_cluster xs k)) ys (free-with_mark xs owned) ∙ list_all-both (λ k. is_free k owned) (λ k. not (has_cluster xs k)) ys))
   where
     tests : (a b c : Bool) → (a && (b && c)) ≡ ((a && c) && b)
     tests true true true = refl

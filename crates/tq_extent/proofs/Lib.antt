@@ -4,3 +4,6 @@ pub mod CountLemmas
 pub mod ClaimLemmas
 pub mod PageLemmas
 pub mod OwnerLemmas
+pub mod BytesLemmas
+pub mod RunLemmas
+pub mod ReadOnlyLemmas

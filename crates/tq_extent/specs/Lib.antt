@@ -2,3 +2,4 @@ pub mod Clusters
 pub mod Pages
 pub mod TakeError
 pub mod Owner
+pub mod Bytes

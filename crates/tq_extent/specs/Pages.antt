@@ -1,9 +1,9 @@
 -- The pages of an owner: 32 in each of its clusters, in their order.
-use Rattle.std.specs.Prelude.{◌≡◌, ℕ, ◌+◌, ◌*◌, ◌/◌, ◌%◌, ◌<◌, ◌≤◌, ◌⊎◌, not, nat_le, nat_lt, Bool, true, false, List, length, get_or}
-use Rattle.std.specs.List.{list_all, list_any}
+use Rattle.std.specs.Prelude.{◌≡◌, ℕ, ◌+◌, ◌*◌, ◌/◌, ◌%◌, ◌<◌, ◌≤◌, ◌⊎◌, not, nat_lt, Bool, true, List, length, get_or}
+use Rattle.std.specs.List.{list_all}
 use Rattle.tq_model.specs.declared.answer.Extent.{Extent}
 use Rattle.tq_model.specs.DeviceForm.{cluster_bytes, page_bytes}
-use Rattle.tq_model.specs.Site.{most_clusters, covers}
+use Rattle.tq_model.specs.Site.{most_clusters}
 use Rattle.tq_extent.specs.Clusters.{clusters_of, are_distinct, is_free}
 
 -- how many pages so many clusters have
@@ -34,18 +34,6 @@ pub record AreMappable (extents : List Extent) : Type 0 where
 
 -- the pages of a map
 pub record HasPages (clusters : List ℕ) : Type 0 where
+  pub within : list_all (λ cluster. nat_lt cluster most_clusters) clusters ≡ true
   pub few : length clusters ≤ most_clusters
   pub distinct : are_distinct clusters ≡ true
-
--- no cluster is of the extents of both
-abbrev pub ShareNone : List Extent → List Extent → Type 0
-ShareNone xs ys = (cluster : ℕ) → list_any (covers cluster) xs ≡ true → list_any (covers cluster) ys ≡ false
-
--- the bytes of a device before and after writes to the clusters of these extents alone
-pub record DiffersWithin (extents : List Extent) (old new : List ℕ) : Type 0 where
-  pub same_length : length new ≡ length old
-  pub elsewhere : (at : ℕ) → list_any (covers (at / cluster_bytes)) extents ≡ false → get_or new at 0 ≡ get_or old at 0
-
--- the device reaches to the end of these extents
-abbrev pub reaches : List Extent → List ℕ → Bool
-reaches extents image = list_all (λ (e : Extent). nat_le (cluster_bytes * (e.first + e.count)) (length image)) extents

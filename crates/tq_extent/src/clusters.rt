@@ -4,7 +4,8 @@ ghost use Rattle.std.specs.Prelude.{◌≡◌, ℕ, ◌+◌, ◌≤◌, ◌<◌,
 ghost use Rattle.std.specs.List.{list_all};
 ghost use Rattle.tq_model.specs.Site.{Volume, header_clusters, least_clusters, most_clusters, numbers_from, as_extents, lowest_free, free_clusters};
 ghost use Rattle.tq_extent.specs.Clusters.{new_clusters, is_free, is_given, free_in, clusters_of, are_distinct, can_claim, with_mark, extents_on, IsOf};
-ghost use Rattle.tq_extent.specs.Pages.{HavePagesApart, AreMappable, ShareNone, are_others};
+ghost use Rattle.tq_extent.specs.Pages.{HavePagesApart, AreMappable, are_others};
+ghost use Rattle.tq_extent.specs.Bytes.{ShareNone};
 ghost use Rattle.tq_extent.specs.declared.clusters.TakeError.TheVariants as error;
 
 use crate::joining::{NO_RUN, close, join};
@@ -120,7 +121,7 @@ impl ExtentList {
 
         // Their pages share no byte with the header's, nor with those of clusters that had an owner.
         ensures apart { IfOk result (λ extents. (others : List ℕ) → are_others others self.old ≡ true → HavePagesApart (clusters_of extents) others) }
-        ensures shares_none { IfOk result (λ extents. (others : List Extent) → are_others (clusters_of others) self.old ≡ true → ShareNone extents others) }
+        ensures shares_none { IfOk result (λ extents. (others : List ℕ) → are_others others self.old ≡ true → ShareNone (clusters_of extents) others) }
         ensures mappable { IfOk result AreMappable }
         ensures left { IfOk result (λ extents. length (clusters_of extents) + length (free_in self.new) ≡ length (free_in self.old)) }
     {
@@ -164,7 +165,7 @@ impl ExtentList {
 
         // Their pages share no byte with the header's, nor with those of clusters that had an owner.
         ensures apart { OnOk result ((others : List ℕ) → are_others others self.old ≡ true → HavePagesApart (clusters_of extents.now) others) }
-        ensures shares_none { OnOk result ((others : List Extent) → are_others (clusters_of others) self.old ≡ true → ShareNone extents.now others) }
+        ensures shares_none { OnOk result ((others : List ℕ) → are_others others self.old ≡ true → ShareNone (clusters_of extents.now) others) }
         ensures mappable { OnOk result (AreMappable extents.now) }
         ensures left { OnOk result (length (clusters_of extents.now) + length (free_in self.new) ≡ length (free_in self.old)) }
     {

@@ -3,20 +3,20 @@
 ghost use Rattle.std.specs.Prelude.{true, length, get_or, ◌≡◌, ◌≢◌, ℕ, ◌+◌, ◌≤◌, ◌<◌, nat_lt, ◌∷◌, ◌++◌, IfOk, OnOk};
 ghost use Rattle.std.specs.List.{list_all};
 ghost use Rattle.tq_model.specs.Site.{header_clusters, most_clusters, numbers_from};
-ghost use Rattle.tq_extent.specs.Clusters.{clusters_of, are_distinct};
-ghost use Rattle.tq_extent.specs.Pages.{page_count, page_address, AreApart, AreMappable};
+ghost use Rattle.tq_extent.specs.Clusters.{clusters_of};
+ghost use Rattle.tq_extent.specs.Pages.{page_count, page_address, AreApart, AreMappable, HasPages};
 
 use crate::clusters::HEADER;
 use std::alloc::{AllocError, Global};
 use std::marker::Model;
 use tq_model::Extent;
 
-const CLUSTER_BYTES: u64 = 32_768;
+pub(crate) const CLUSTER_BYTES: u64 = 32_768;
 
 const PAGE_BYTES: u64 = 1024;
 
 /// The pages of a cluster.
-const PAGES: u32 = 32;
+pub(crate) const PAGES: u32 = 32;
 
 #[derive(Drop)]
 enum Owner {
@@ -69,7 +69,9 @@ impl PageMap {
 
     /// How many pages there are.
     pub fn pages(&self) -> u32
-        ensures { result ≡ page_count self.now }
+        ensures pages { result ≡ page_count self.now }
+        // An owner has no more clusters than the largest device.
+        ensures few { length self.now ≤ most_clusters }
     {
         match &self.owner {
             Owner::Header => PAGES * HEADER,
@@ -84,19 +86,20 @@ impl PageMap {
         // Two pages share no byte.
         ensures apart { (other : ℕ) → other < page_count self.now → other ≢ page → AreApart result (page_address self.now other) }
     {
-        let cluster = self.cluster(page / PAGES);
-        CLUSTER_BYTES * u64::from(cluster) + PAGE_BYTES * u64::from(page % PAGES)
+        let cluster = self.cluster(u64::from(page / PAGES));
+        CLUSTER_BYTES * cluster + PAGE_BYTES * u64::from(page % PAGES)
     }
 
     /// The cluster at this place.
-    fn cluster(&self, at: u32) -> u32
+    pub(crate) fn cluster(&self, at: u64) -> u64
         requires { at < length self.now }
         ensures cluster { result ≡ get_or self.now at 0 }
-        ensures distinct { are_distinct self.now ≡ true }
+        ensures below { result < most_clusters }
+        ensures pages { HasPages self.now }
     {
         match &self.owner {
             Owner::Header => at,
-            Owner::Space(clusters) => clusters[at as usize],
+            Owner::Space(clusters) => clusters[at as usize].into(),
         }
     }
 

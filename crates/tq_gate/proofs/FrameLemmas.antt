@@ -24,7 +24,8 @@ last_alone : (n : ℕ) (l : List ℕ) → length l ≡ n + 1 → l ≡ take n l 
 last_alone n l long = sym (take-append-drop n l) ∙ ap (λ (rest : List ℕ). take n l ++ rest) (alone (drop n l) (omega (arith, length-drop n l)))
 
 -- the length is written, and then the closed gate
-pub closed : (frame a b : List ℕ) (last : ℕ) → IsFrame frame → last ≡ length frame - 1 → a ≡ with_number 1 4 (last - 5) frame → b ≡ set a last 0 → drop 1 b ≡ behind_gate (payload_in frame)
+pub closed : (frame a b : List ℕ) (last : ℕ) → IsFrame frame → last ≡ length frame - 1 → a ≡ with_number 1 4 (last - 5) frame → b ≡ set a last 0
+    → drop 1 b ≡ behind_gate (payload_in frame)
 closed [] a b last is at_last number gate = absurd (omega arith)
 closed (x ∷ xs) a b last is at_last number gate =
     let frame = x ∷ xs in
@@ -36,6 +37,7 @@ closed (x ∷ xs) a b last is at_last number gate =
     let front = x ∷ (d ++ payload) in
     let byte = get_or (drop n (drop 5 frame)) 0 0 in
     let ends : drop 5 frame ≡ payload ++ byte ∷ [] = last_alone n (drop 5 frame) (omega (arith, length-drop 5 frame)) in
-    let split : a ≡ front ++ byte ∷ [] = number ∙ ap (λ (k : ℕ). with_number 1 4 k frame) count ∙ ap (λ (rest : List ℕ). x ∷ (d ++ rest)) ends ∙ ap (λ (rest : List ℕ). x ∷ rest) (sym (append_assoc d payload (byte ∷ []))) in
+    let split : a ≡ front ++ byte ∷ [] = number ∙ ap (λ (k : ℕ). with_number 1 4 k frame) count ∙ ap (λ (rest : List ℕ). x ∷ (d ++ rest)) ends
+    ∙ ap (λ (rest : List ℕ). x ∷ rest) (sym (append_assoc d payload (byte ∷ []))) in
     let place : length front ≡ last = omega (arith, length-append d payload, length-digits 4 (length payload), long, at_last) in
     ap (drop 1) (gate ∙ ap (λ (l : List ℕ). set l last 0) split ∙ set_at front byte [] 0 last place) ∙ append_assoc d payload (0 ∷ [])

@@ -2,7 +2,8 @@ pub mod RangeLemmas
 pub mod FrameLemmas
 pub mod Readings
 pub mod Contents
+pub mod PictureLemmas
 pub mod StageLemmas
-pub mod ReadOnlyLemmas
+pub mod ReplaceLemmas
 pub mod OpenGateLemmas
 pub mod OutsideLemmas

@@ -1,4 +1,4 @@
--- What a gated log reads as.
+-- What a gated log reads as, by the bytes of its owner.
 use Rattle.std.specs.Prelude.{◌≡◌, ◌<◌, ◌≤◌, ℕ, ◌+◌, nat_le, if◌then◌else◌, Option, None, List, [], ◌∷◌, length, get_or}
 use Rattle.std.specs.Option.{option_map}
 use Rattle.tq_field.specs.Places.{run_at, number_at}
@@ -6,7 +6,7 @@ use Rattle.tq_field.specs.GatedLog.{log_reading, end_of}
 use Rattle.tq_gate.specs.declared.layout.Layout.{Layout}
 use Rattle.tq_gate.specs.declared.layout.Areas.{Areas}
 use Rattle.tq_gate.specs.declared.layout.Areas.TheVariants.{One, Two}
-use Rattle.tq_gate.specs.Layout.{address, bytes_from, first_area, base_length, log_length, area_by, layout_end}
+use Rattle.tq_gate.specs.Layout.{bytes_in, first_area, base_length, log_length, area_by, layout_end}
 
 -- a payload stands behind an open gate at place p of a log, and a further byte behind it
 pub record IsRecord (log : List ℕ) (p : ℕ) (payload : List ℕ) : Type 0 where
@@ -33,24 +33,28 @@ pub record Content : Type 0 where
   pub base : List ℕ
   pub payloads : List (List ℕ)
 
--- the logical byte at which the chosen area begins
+-- the byte at which the chosen area begins
 abbrev pub chosen : Layout → Areas → List ℕ → ℕ
-chosen layout One image = first_area layout
-chosen layout (Two selector) image = area_by layout (get_or image (address layout selector) 0)
+chosen layout One bytes = first_area layout
+chosen layout (Two selector) bytes = area_by layout (get_or bytes selector 0)
 
 abbrev pub area_of : Layout → List ℕ → ℕ
-area_of layout image = chosen layout layout.areas image
+area_of layout bytes = chosen layout layout.areas bytes
 
--- the base of the area that begins at this logical byte, and its log
+-- the base of the area that begins at this byte, and its log
 abbrev pub base_in : Layout → ℕ → List ℕ → List ℕ
-base_in layout area image = bytes_from layout area (base_length layout) image
+base_in layout area bytes = run_at area (base_length layout) bytes
 
 abbrev pub log_in : Layout → ℕ → List ℕ → List ℕ
-log_in layout area image = bytes_from layout (area + base_length layout) (log_length layout) image
+log_in layout area bytes = run_at (area + base_length layout) (log_length layout) bytes
 
--- The content that a device has there; none where it is too short, or where its log has no reading.
+-- The content that an owner has there; none where its bytes are too few, or where its log has no reading.
 abbrev pub content : Layout → List ℕ → Option Content
-content layout image =
-    if nat_le (layout_end layout) (length image)
-    then option_map (λ payloads. record { base = base_in layout (area_of layout image) image; payloads = payloads }) (log_reading (log_in layout (area_of layout image) image))
+content layout bytes =
+    if nat_le (layout_end layout) (length bytes)
+    then option_map (λ payloads. record { base = base_in layout (area_of layout bytes) bytes; payloads = payloads }) (log_reading (log_in layout (area_of layout bytes) bytes))
     else None
+
+-- the content in an image of the device
+abbrev pub content_on : Layout → List ℕ → Option Content
+content_on layout image = content layout (bytes_in layout image)

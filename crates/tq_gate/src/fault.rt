@@ -8,7 +8,7 @@ use tq_host::Failed;
 /// Why a log is not loaded.
 #[derive(Clone, Copy, Debug, Drop, PartialEq, Eq, Error)]
 pub enum GateError {
-    /// The payload behind the open gate at this byte of the device does not end within the log.
+    /// The payload behind the open gate at this byte of the owner does not end within the log.
     #[error("the log is damaged at byte {at}")]
     Damaged { at: u64 },
     #[error("the outside failed")]

@@ -9,7 +9,8 @@ pub const BEFORE_PAYLOAD: usize = 5;
 /// The free bytes of a frame, before its payload and behind it.
 pub const AROUND_PAYLOAD: usize = 6;
 
-const CLOSED_GATE: u8 = 0;
+/// The byte of a closed gate.
+pub(crate) const CLOSED_GATE: u8 = 0;
 
 // Writes the payload's length before it, and a closed gate behind it.
 pub(crate) fn close_frame(frame: &mut [u8])

@@ -1,8 +1,8 @@
-//! Gated logs: a base and a list of payloads on a device. A stop inside a call that adds a payload
-//! leaves the old payloads or the new ones.
+//! Gated logs: a base and a list of payloads among the bytes of an owner of a device. A stop inside a
+//! call that adds a payload, or that makes a new base, leaves the old content or the new one.
 //!
-//! The layer above uses `GateLog`: `empty`, `load`, `free`, `fits` and `append`, whose clauses speak of
-//! a log's content as `specs/Reading` reads it.
+//! The layer above uses `GateLog`: `empty`, `load`, `free`, `fits`, `append` and `replace`, whose
+//! clauses speak of a log's content as `specs/Reading` reads it.
 #![tactic(auto)]
 
 mod fault;

@@ -1,15 +1,15 @@
 ghost use Rattle.std.specs.Prelude.{◌≡◌, ◌+◌, ◌≤◌, ◌↔◌, IsTrue};
-ghost use Rattle.tq_gate.specs.Layout.{IsPlaced, log_length, log_address};
+ghost use Rattle.tq_gate.specs.Layout.{IsPlaced, log_length, log_place};
 
 use crate::layout::Layout;
-use crate::pieces::{open_gate, stage};
+use crate::pieces::{choose_other, fill_other, open_gate, stage};
 use tq_host::{Device, Host};
 
 /// A gated log that is open: where it lies, and where it ends.
-#[derive(Debug, Drop)]
+#[derive(Drop)]
 pub struct GateLog {
     pub(crate) layout: Layout,
-    // the logical byte at which the chosen area begins
+    // the byte at which the chosen area begins
     pub(crate) area: u64,
     // the place in the log at which its closed gate stands
     pub(crate) end: u64,
@@ -18,14 +18,22 @@ pub struct GateLog {
 }
 
 impl GateLog {
-    ghost use Rattle.std.specs.Prelude.{List, ℕ, length, OnOk, OnErr};
+    ghost use Rattle.std.specs.Prelude.{true, List, ℕ, length, OnOk, OnErr};
     ghost use Rattle.tq_host.specs.View.{IsSettled};
     ghost use Rattle.tq_host.specs.Calls.{HasCause};
     ghost use Rattle.tq_host.specs.Within.{Within, KeepsRest};
-    ghost use Rattle.tq_gate.specs.Layout.{layout_end};
+    ghost use Rattle.tq_extent.specs.Bytes.{reaches};
+    ghost use Rattle.tq_gate.specs.Layout.{clusters_of, base_length, has_two_areas};
     ghost use Rattle.tq_gate.specs.Reading.{Content};
     ghost use Rattle.tq_gate.specs.Frame.{IsFrame, payload_in};
-    ghost use Rattle.tq_gate.specs.Log.{IsLog, AreLog, HaveLog, added, layout_of, free_in, FitsIn, IsSameLog, IsSameButLog, IsOldOrNew};
+    ghost use Rattle.tq_gate.specs.Log.{IsLog, AreLog, HaveLog, added, replaced, layout_of, free_in, FitsIn, IsSameLog, IsSameButLog, IsSameButAreas, IsOldOrNew, IsOldOrReplaced};
+
+    /// Where the log lies.
+    pub fn layout(&self) -> &Layout
+        ensures { result.now ≡ layout_of self.now }
+    {
+        &self.layout
+    }
 
     /// The bytes that are left: the log's length less those of its payloads, each with its gate
     /// and its length.
@@ -44,23 +52,22 @@ impl GateLog {
         free >= 6 && bytes <= free - 6
     }
 
-    // The byte of the device at which that byte of the log lies.
-    pub(crate) fn address(&self, at: u64) -> u64
+    // Where that byte of the log lies.
+    pub(crate) fn place(&self, at: u64) -> u64
         requires { at ≤ log_length self.now.layout }
-        ensures { result ≡ log_address self.now.layout self.now.area at }
+        ensures { result ≡ log_place self.now.layout self.now.area at }
     {
-        self.layout
-            .address(self.area + self.layout.base_length() + at)
+        self.area + self.layout.base_length() + at
     }
 
-    /// Adds a payload that fits: two writes, each with a sync behind it. The payload stands in a
-    /// frame, behind `BEFORE_PAYLOAD` free bytes and before one more, which are filled in here. A
-    /// stop at any moment leaves the old payloads or the new ones. Takes no memory. After `Device`
-    /// the log is to be loaded again.
+    /// Adds a payload that fits: its bytes with a sync behind them, and then its gate with a sync.
+    /// The payload stands in a frame, behind `BEFORE_PAYLOAD` free bytes and before one more, which
+    /// are filled in here. A stop at any moment leaves the old payloads or the new ones. Takes no
+    /// memory. After `Device` the log is to be loaded again.
     pub fn append<H: Host>(&mut self, host: &mut H, frame: &mut [u8]) -> Result<(), Device>
         requires frame { IsFrame frame.old }
         requires fits { FitsIn self.old (length (payload_in frame.old)) }
-        requires reach { H.tells.reads → layout_end (layout_of self.old) ≤ length ((H.view host.old).reads (layout_of self.old).dev) }
+        requires reach { H.tells.reads → reaches (clusters_of (layout_of self.old)) ((H.view host.old).reads (layout_of self.old).dev) ≡ true }
 
         // In each picture the content is that of one image of the start, or that of what was read
         // at the start with the payload more; outside the log all is as it was there.
@@ -85,6 +92,41 @@ impl GateLog {
         stage(host, self, frame)?;
         open_gate(host, self)?;
         self.end += frame.len() as u64 - 1;
+        Ok(())
+    }
+
+    /// Makes the content this base, which has as many bytes as the base pages, and no payload: the
+    /// base and a closed gate in the area that is not chosen with a sync behind them, and then the
+    /// selector with a sync. The log has two areas. A stop at any moment leaves the old content or
+    /// the new one. Takes no memory. After `Device` the log is to be loaded again.
+    pub fn replace<H: Host>(&mut self, host: &mut H, base: &[u8]) -> Result<(), Device>
+        requires two { has_two_areas (layout_of self.old).areas ≡ true }
+        requires base { length base.now ≡ base_length (layout_of self.old) }
+        requires reach { H.tells.reads → reaches (clusters_of (layout_of self.old)) ((H.view host.old).reads (layout_of self.old).dev) ≡ true }
+
+        // In each picture the content is that of one image of the start, or the base alone; where it is that, all
+        // outside the areas and the selector is what was read at the start.
+        ensures stop { HaveLog self.old (H.view host.old)
+            → Within (layout_of self.old).dev (IsSameButAreas self.old) (IsOldOrReplaced self.old (H.view host.old) base.now) (H.view host.old) (H.view host.new) }
+
+        // What is read, and each image, is the new content.
+        ensures replaced { OnOk result (H.tells.reads → (k : Content) → IsLog self.old k ((H.view host.old).reads (layout_of self.old).dev)
+            → IsLog self.new (replaced base.now) ((H.view host.new).reads (layout_of self.old).dev)) }
+        ensures images { OnOk result ((k : Content) → AreLog self.old k (H.view host.old) → AreLog self.new (replaced base.now) (H.view host.new)) }
+        ensures outside { OnOk result (H.tells.reads
+            → IsSameButAreas self.old ((H.view host.old).reads (layout_of self.old).dev) ((H.view host.new).reads (layout_of self.old).dev)) }
+        ensures settled { OnOk result (IsSettled (layout_of self.old).dev (H.view host.new)) }
+
+        ensures layout { layout_of self.new ≡ layout_of self.old }
+        ensures free { OnOk result (free_in self.new ≡ log_length (layout_of self.old)) }
+        ensures same { OnErr result (IsSameLog self.old self.new) }
+        ensures rest { KeepsRest (layout_of self.old).dev (H.view host.old) (H.view host.new) }
+        ensures cause { HasCause (H.view host.old).faults (H.view host.new).faults result }
+    {
+        fill_other(host, self, base)?;
+        choose_other(host, self)?;
+        self.area = self.layout.other_area(self.area);
+        self.end = 0;
         Ok(())
     }
 }

@@ -1,20 +1,21 @@
-ghost use Rattle.std.specs.Prelude.{◌≡◌, ◌+◌, ◌*◌, ◌<◌, ◌≤◌, List, ℕ, length, IfOk, IfErr, OnOk, IsErrOf};
+ghost use Rattle.std.specs.Prelude.{true, ◌≡◌, ◌+◌, ◌<◌, ◌≤◌, List, ℕ, length, IfOk, IfErr, IsErrOf};
+ghost use Rattle.tq_field.specs.Places.{run_at};
 ghost use Rattle.tq_host.specs.Calls.{HasCause, HasCauseOf};
+ghost use Rattle.tq_extent.specs.Bytes.{byte_count, reaches, IsQuiet};
 ghost use Rattle.tq_gate.specs.declared.fault.GateError.TheVariants as fault;
-ghost use Rattle.tq_gate.specs.Layout.{address, bytes_from, layout_end, IsLaidOut, IsPlaced};
+ghost use Rattle.tq_gate.specs.Layout.{clusters_of, bytes_in, IsLaidOut, IsPlaced};
 ghost use Rattle.tq_gate.specs.Reading.{area_of};
-ghost use Rattle.tq_gate.specs.Loading.{IsQuiet};
 
 use crate::GateError;
-use crate::layout::{Areas, Layout, PAGE};
+use crate::layout::{Areas, Layout};
 use std::alloc::Global;
 use tq_host::{Failed, Host};
 
-// The logical byte at which the chosen area begins.
+// The byte at which the chosen area begins.
 pub(crate) fn choose_area<H: Host>(host: &mut H, layout: &Layout) -> Result<u64, Failed>
     requires laid_out { IsLaidOut layout.now }
-    requires reach { H.tells.reads → layout_end layout.now ≤ length ((H.view host.old).reads layout.now.dev) }
-    ensures area { IfOk result (λ area. H.tells.reads → area ≡ area_of layout.now ((H.view host.old).reads layout.now.dev)) }
+    requires reach { H.tells.reads → reaches (clusters_of layout.now) ((H.view host.old).reads layout.now.dev) ≡ true }
+    ensures area { IfOk result (λ area. H.tells.reads → area ≡ area_of layout.now (bytes_in layout.now ((H.view host.old).reads layout.now.dev))) }
     ensures placed { IfOk result (λ area. IsPlaced layout.now area) }
     ensures quiet { IsQuiet layout.now.dev (H.view host.old) (H.view host.new) }
     ensures cause { HasCause (H.view host.old).faults (H.view host.new).faults result }
@@ -23,36 +24,11 @@ pub(crate) fn choose_area<H: Host>(host: &mut H, layout: &Layout) -> Result<u64,
         return Ok(layout.first_area());
     };
     let mut byte = [0];
-    host.read_at(layout.dev, layout.address(selector), &mut byte)?;
+    layout.map.read_at(host, layout.dev, selector, &mut byte)?;
     Ok(layout.area_by(byte[0]))
 }
 
-// Fills `into` with the bytes from a logical byte on, a page at a time.
-fn read_into<H: Host>(
-    host: &mut H,
-    layout: &Layout,
-    from: u64,
-    into: &mut [u8],
-) -> Result<(), Failed>
-    requires dev { layout.now.dev < 8 }
-    requires end { address layout.now (from + length into.old) ≤ 268435456 }
-    requires reach { H.tells.reads → address layout.now (from + length into.old) ≤ length ((H.view host.old).reads layout.now.dev) }
-    ensures bytes { OnOk result (H.tells.reads → into.new ≡ bytes_from layout.now from (length into.old) ((H.view host.old).reads layout.now.dev)) }
-    ensures length_kept { length into.new ≡ length into.old }
-    ensures quiet { IsQuiet layout.now.dev (H.view host.old) (H.view host.new) }
-    ensures cause { HasCause (H.view host.old).faults (H.view host.new).faults result }
-{
-    let mut done = 0;
-    while done < into.len() {
-        let count = (PAGE as usize).min(into.len() - done);
-        let at = layout.address(from + done as u64);
-        host.read_at(layout.dev, at, &mut into[done..done + count])?;
-        done += count;
-    }
-    Ok(())
-}
-
-// The bytes from a logical byte on.
+// So many bytes of the owner, from this one on.
 pub(crate) fn read_bytes<H: Host>(
     alloc: Global,
     host: &mut H,
@@ -61,15 +37,15 @@ pub(crate) fn read_bytes<H: Host>(
     count: u64,
 ) -> Result<Vec<u8>, GateError>
     requires dev { layout.now.dev < 8 }
-    requires end { address layout.now (from + count) ≤ 268435456 }
-    requires reach { H.tells.reads → address layout.now (from + count) ≤ length ((H.view host.old).reads layout.now.dev) }
-    ensures bytes { IfOk result (λ v. H.tells.reads → v.items ≡ bytes_from layout.now from count ((H.view host.old).reads layout.now.dev)) }
+    requires end { from + count ≤ byte_count (clusters_of layout.now) }
+    requires reach { H.tells.reads → reaches (clusters_of layout.now) ((H.view host.old).reads layout.now.dev) ≡ true }
+    ensures bytes { IfOk result (λ v. H.tells.reads → v.items ≡ run_at from count (bytes_in layout.now ((H.view host.old).reads layout.now.dev))) }
     ensures length { IfOk result (λ v. length v.items ≡ count) }
     ensures fault { IfErr result (λ e. (at : ℕ) → e ≡ fault.Damaged at → ⊥) }
     ensures quiet { IsQuiet layout.now.dev (H.view host.old) (H.view host.new) }
     ensures cause { HasCauseOf (IsErrOf result fault.Device) (H.view host.old).faults (H.view host.new).faults }
 {
     let mut bytes = vec![in alloc; 0u8; count as usize]?;
-    read_into(host, layout, from, &mut bytes)?;
+    layout.map.read_at(host, layout.dev, from, &mut bytes)?;
     Ok(bytes)
 }

@@ -13,12 +13,14 @@ use Rattle.tq_device.specs.declared.content.DeviceContent.{DeviceContent}
 use Rattle.tq_device.specs.Content.{HasContent, IsSameImage, IsAny, IsSameButJournal, IsOldOrRaised, raised}
 use Rattle.tq_device.specs.declared.content.NamedSpace.{NamedSpace}
 use Rattle.tq_spacefile.specs.declared.file.SpaceFile.{SpaceFile}
-use Rattle.tq_spacefile.specs.File.{held_in}
+use Rattle.tq_extent.proofs.BytesLemmas.{reaches_same}
+use Rattle.tq_spacefile.specs.File.{clusters_in, held_in}
 use Rattle.tq_spacefile.proofs.Files.{file_kept, file_later, file_epochs}
 use Rattle.tq_run.specs.declared.site.Manager.{Manager}
 use Rattle.tq_run.specs.Manager.{IsBooted, IsContentOn, IsFileAt, IsFileOn, IsLoaded, loaded_site}
 use Rattle.tq_run.specs.Words.{device_count}
 use Rattle.tq_run.specs.Stops.{ImagesHave, ImagesHaveAny, AreFoundOrBooted, AreOldOrBooted, HasNoNewImage}
+use Rattle.tq_run.proofs.SpaceClusterLemmas.{space_stays}
 use Rattle.tq_run.proofs.RunDeviceLemmas.{same_found}
 use Rattle.tq_run.proofs.LeftAloneLemmas.{left_alone}
 use Rattle.tq_run.proofs.FoundLemmas.{file_at, parts_have, loaded_found, found_have, can_raise}
@@ -46,7 +48,9 @@ kept_at : (d : DeviceContent) (named : Option NamedSpace) (file : Option SpaceFi
 kept_at d None None old new same on = tt
 kept_at d None (Some f) old new same on = absurd on
 kept_at d (Some n) None old new same on = absurd on
-kept_at d (Some n) (Some f) old new same on = (on.0, file_kept f d.epoch old new same.size (λ i le. same.bytes i (inr (omega (arith, le))) (inr (omega (arith, le)))) on.1)
+kept_at d (Some n) (Some f) old new same on =
+    let stays = space_stays n.pages (clusters_in f) on.0.clusters old new same.size (λ i le. same.bytes i (inr (omega (arith, le))) (inr (omega (arith, le)))) in
+    (on.0, file_kept f d.epoch old new stays (reaches_same (clusters_in f) old new same.size ∙ on.1.has.reach) on.1)
 
 -- no message of the space is of the next epoch
 newer_at : (d : DeviceContent) (named : Option NamedSpace) (file : Option SpaceFile) (image : List ℕ) → IsFileAt d named file image → IsFileOn (raised d) named file 0 image

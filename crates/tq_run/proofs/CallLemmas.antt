@@ -1,5 +1,5 @@
 -- What a call on a space and its log comes to, and what a stop leaves within it.
-use Rattle.std.proofs.Common.{◌≡◌, inl, inr, ⊎_elim, ◌<◌, ◌≤◌, ℕ, ◌+◌, List, [], ◌∷◌, length, drop, Option, Some, None, Bool, refl, sym, ◌∙◌, ap, subst, arith, add-zero}
+use Rattle.std.proofs.Common.{◌≡◌, inl, inr, ⊎_elim, ◌<◌, ◌≤◌, ℕ, ◌+◌, List, [], ◌∷◌, length, drop, Option, Some, None, Bool, sym, ◌∙◌, ap, subst, arith, add-zero}
 use Rattle.std.specs.Prelude.{if◌then◌else◌}
 use Rattle.std.specs.Option.{option_and_then, option_map}
 use Rattle.std.proofs.lemmas.Option.{same_Some}
@@ -7,6 +7,8 @@ use Rattle.std.proofs.lemmas.List.{length-take}
 use Rattle.std.proofs.lemmas.Bool.{le-ltb, lt-ltb}
 use Rattle.tq_field.specs.Places.{run_at}
 use Rattle.tq_field.specs.GatedLog.{log_reading, end_of}
+use Rattle.tq_extent.specs.Bytes.{owned_bytes}
+use Rattle.tq_extent.proofs.BytesLemmas.{on_bytes_steps}
 use Rattle.tq_gate.specs.Reading.{AreRecords}
 use Rattle.tq_gate.proofs.Readings.{read_of}
 use Rattle.tq_host.specs.View.{View}
@@ -28,20 +30,17 @@ use Rattle.tq_space.specs.Applied.{plan_applied}
 use Rattle.tq_space.specs.Loggable.{size_of}
 use Rattle.tq_spacefile.specs.declared.place.SpacePlace.{SpacePlace}
 use Rattle.tq_spacefile.specs.declared.file.SpaceFile.{SpaceFile}
-use Rattle.tq_spacefile.specs.File.{place_in, held_in, logged_in, HasSpace, IsSameButSpace, room_for}
-use Rattle.tq_spacefile.specs.Place.{space_bytes, page_of}
+use Rattle.tq_spacefile.specs.File.{place_in, clusters_in, held_in, logged_in, HasSpace, IsAnyStep, IsSameButSpace, room_for}
+use Rattle.tq_spacefile.specs.Place.{page_of}
 use Rattle.tq_spacefile.specs.Commit.{IsOldOrDone}
+use Rattle.tq_device.proofs.CreationLemmas.{any_steps}
 use Rattle.tq_run.specs.declared.calls.Reply.{Reply}
 use Rattle.tq_run.specs.declared.planning.Planned.TheVariants as planned
 use Rattle.tq_run.specs.Calls.{logged_outcome_in, IsPlanFor, IsPlanned, IsCalled, HasOutcome, IsSameOrChanged, AreBehind}
 
--- ---- the bytes before the space
-
-pub space_steps : IsSteps IsSameButSpace
-space_steps = record {
-  none = λ c. record { size = refl; bytes = λ i lt. refl };
-  both = λ a b c first second. record { size = second.size ∙ first.size; bytes = λ i lt. second.bytes i lt ∙ first.bytes i lt };
-}
+-- any steps on the space
+pub space_steps : (clusters : List ℕ) → IsSteps (IsSameButSpace clusters)
+space_steps clusters = on_bytes_steps clusters IsAnyStep any_steps
 
 -- ---- the room of the log
 
@@ -63,19 +62,19 @@ ends_within p (x ∷ y ∷ payloads) log are some =
     let rest : p + (5 + length x) + end_of (y ∷ payloads) + 1 ≤ length log = ends_within (p + (5 + length x)) (y ∷ payloads) log are.1 (omega arith) in
     omega arith
 
-logged_within : (place : SpacePlace) (epoch logged : ℕ) (held : IndexedSpace) (image : List ℕ) → 0 < logged → HasSpace place epoch held logged image → logged + 1 ≤ log_bytes place.pages
-logged_within place epoch logged held image some has =
-    let log = run_at log_start (log_bytes place.pages) (space_bytes place.pages image) in
-    let space = empty_space (shape_of place.pages (raw_space (page_of place.pages image))) place.site place.number in
+logged_within : (place : SpacePlace) (clusters : List ℕ) (epoch logged : ℕ) (held : IndexedSpace) (image : List ℕ) → 0 < logged → HasSpace place clusters epoch held logged image → logged + 1 ≤ log_bytes place.pages
+logged_within place clusters epoch logged held image some has =
+    let log = run_at log_start (log_bytes place.pages) (owned_bytes clusters image) in
+    let space = empty_space (shape_of place.pages (raw_space (page_of clusters image))) place.site place.number in
     let reads : log_reading log ≡ Some has.payloads = payloads_are epoch space (log_reading log) (record { payloads = has.payloads; space = held }) has.reads in
     let are = (read_of (length log) 0 has.payloads log (omega arith) reads).records in
     let ends = ends_within 0 has.payloads log are (omega (arith, some, has.ends)) in
-    omega (arith, ends, has.ends, length-take (log_bytes place.pages) (drop log_start (space_bytes place.pages image)))
+    omega (arith, ends, has.ends, length-take (log_bytes place.pages) (drop log_start (owned_bytes clusters image)))
 
 -- Where an image has a record more, the log has room for it.
-has_room : (f : SpaceFile) (epoch size : ℕ) (held : IndexedSpace) (image : List ℕ) → HasSpace (place_in f) epoch held (logged_in f + (5 + size)) image → logged_in f + (size + 6) ≤ log_bytes (place_in f).pages
+has_room : (f : SpaceFile) (epoch size : ℕ) (held : IndexedSpace) (image : List ℕ) → HasSpace (place_in f) (clusters_in f) epoch held (logged_in f + (5 + size)) image → logged_in f + (size + 6) ≤ log_bytes (place_in f).pages
 has_room f epoch size held image has =
-    let within : logged_in f + (5 + size) + 1 ≤ log_bytes (place_in f).pages = logged_within (place_in f) epoch (logged_in f + (5 + size)) held image (omega arith) has in
+    let within : logged_in f + (5 + size) + 1 ≤ log_bytes (place_in f).pages = logged_within (place_in f) (clusters_in f) epoch (logged_in f + (5 + size)) held image (omega arith) has in
     omega (arith, within)
 
 -- ---- what a call comes to
@@ -151,24 +150,25 @@ module _ (f : SpaceFile) (next : Arrival) (c : SpaceOutcome) where
         omega arith
 
     -- an image with the record has what the call comes to
-    has_outcome : (image : List ℕ) → HasSpace (place_in f) next.epoch (plan_applied plan (held_in f)) (logged_in f + (5 + size_of plan)) image → HasOutcome f next.epoch o image
+    has_outcome : (image : List ℕ) → HasSpace (place_in f) (clusters_in f) next.epoch (plan_applied plan (held_in f)) (logged_in f + (5 + size_of plan)) image → HasOutcome f next.epoch o image
     has_outcome image has =
-        let here : HasSpace (place_in f) next.epoch (plan_applied plan (held_in f)) (logged_in f + (5 + c.size)) image =
-        subst (λ (k : ℕ). HasSpace (place_in f) next.epoch (plan_applied plan (held_in f)) (logged_in f + (5 + k)) image) is.durable.size has in
+        let here : HasSpace (place_in f) (clusters_in f) next.epoch (plan_applied plan (held_in f)) (logged_in f + (5 + c.size)) image =
+        subst (λ (k : ℕ). HasSpace (place_in f) (clusters_in f) next.epoch (plan_applied plan (held_in f)) (logged_in f + (5 + k)) image) is.durable.size has in
         let outcome = granted_outcome (has_room f next.epoch c.size (plan_applied plan (held_in f)) image here) in
         record {
           held = plan_applied plan (held_in f);
           space = is.space ∙ ap (λ (x : LoggedOutcome). x.space) (sym outcome);
           lasts = is.durable.lasts f.plain;
-          has = subst (λ (k : ℕ). HasSpace (place_in f) next.epoch (plan_applied plan (held_in f)) k image) (ap (λ (x : LoggedOutcome). x.logged) (sym outcome)) here;
+          has = subst (λ (k : ℕ). HasSpace (place_in f) (clusters_in f) next.epoch (plan_applied plan (held_in f)) k image) (ap (λ (x : LoggedOutcome). x.logged) (sym outcome)) here;
         }
 
     -- the images within the call
-    pub stops_so : (a b : View) → (place_in f).dev ≡ 0 → Within (place_in f).dev IsSameButSpace (IsOldOrDone f next.epoch plan) a b → Within 0 IsSameButSpace (IsSameOrChanged f next o) a b
+    pub stops_so : (a b : View) → (place_in f).dev ≡ 0 → Within (place_in f).dev (IsSameButSpace (clusters_in f)) (IsOldOrDone f next.epoch plan) a b
+        → Within 0 (IsSameButSpace (clusters_in f)) (IsSameOrChanged f next o) a b
     stops_so a b dev within =
-        weaker 0 IsSameButSpace space_steps (IsOldOrDone f next.epoch plan) (IsSameOrChanged f next o) a b (λ i image was has. ⊎_elim (λ same. inl same) (λ new. inr (has_outcome image new)) has)
-        (subst (λ (k : ℕ). Within k IsSameButSpace (IsOldOrDone f next.epoch plan) a b) dev within)
+        weaker 0 (IsSameButSpace (clusters_in f)) (space_steps (clusters_in f)) (IsOldOrDone f next.epoch plan) (IsSameOrChanged f next o) a b (λ i image was has. ⊎_elim (λ same. inl same) (λ new. inr (has_outcome image new)) has)
+        (subst (λ (k : ℕ). Within k (IsSameButSpace (clusters_in f)) (IsOldOrDone f next.epoch plan) a b) dev within)
 
 -- the images where nothing is done
-pub stops_same : (f : SpaceFile) (next : Arrival) (o : LoggedOutcome) (a : View) → (place_in f).dev ≡ 0 → AreBehind f next a → Within 0 IsSameButSpace (IsSameOrChanged f next o) a a
-stops_same f next o a dev behind = starts 0 IsSameButSpace space_steps (IsSameOrChanged f next o) a (λ image may. inl (behind image (subst (λ (k : ℕ). a.may_leave k image) (sym dev) may)).file.has)
+pub stops_same : (f : SpaceFile) (next : Arrival) (o : LoggedOutcome) (a : View) → (place_in f).dev ≡ 0 → AreBehind f next a → Within 0 (IsSameButSpace (clusters_in f)) (IsSameOrChanged f next o) a a
+stops_same f next o a dev behind = starts 0 (IsSameButSpace (clusters_in f)) (space_steps (clusters_in f)) (IsSameOrChanged f next o) a (λ image may. inl (behind image (subst (λ (k : ℕ). a.may_leave k image) (sym dev) may)).file.has)

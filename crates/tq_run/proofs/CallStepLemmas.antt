@@ -18,10 +18,10 @@ use Rattle.tq_device.proofs.ForCallers.{some_epoch}
 use Rattle.tq_device.specs.Content.{HasContent, part_of}
 use Rattle.tq_spacefile.specs.declared.place.SpacePlace.{SpacePlace}
 use Rattle.tq_spacefile.specs.declared.file.SpaceFile.{SpaceFile}
-use Rattle.tq_spacefile.specs.File.{place_in, held_in, logged_in, HasSpace, IsFile, AreFile, IsSameButSpace}
+use Rattle.tq_spacefile.specs.File.{place_in, clusters_in, held_in, logged_in, HasSpace, IsFile, AreFile, IsSameButSpace}
 use Rattle.tq_run.specs.declared.site.Manager.{Manager}
 use Rattle.tq_run.specs.Manager.{site_of, site_with, site_at, placed_of, placed_in, IsSpaceOn, IsFileOn, IsDeviceOn, IsContentOn, ImageMatches}
-use Rattle.tq_run.specs.Together.{place_of, IsFileOf, IsTogether}
+use Rattle.tq_run.specs.Together.{place_of, space_clusters, IsInPlace, IsFileOf, IsTogether}
 use Rattle.tq_run.specs.Stops.{ImagesHave, AreEither, ImagesMatch}
 use Rattle.tq_run.specs.declared.planning.SpaceCall.{SpaceCall}
 use Rattle.tq_run.specs.declared.planning.SpaceCall.TheVariants.{Enqueue, Dequeue, CreateQueue}
@@ -29,8 +29,8 @@ use Rattle.tq_run.specs.declared.calls.Reply.{Reply}
 use Rattle.tq_run.specs.SpaceCalls.{outcome_of, space_name, numbers_asked}
 use Rattle.tq_run.specs.Calls.{outcome_in, logged_outcome_in, IsCalled, IsSameOrChanged, HasOutcome, AreBehind}
 use Rattle.tq_run.specs.Serving.{IsServed}
-use Rattle.tq_run.proofs.FoundLemmas.{part_of_stands, image_at}
-use Rattle.tq_device.proofs.ForCallers.{below_stands}
+use Rattle.tq_run.proofs.FoundLemmas.{part_of_stands, image_at, has_there}
+use Rattle.tq_run.proofs.SpaceClusterLemmas.{stands_beside}
 
 -- ---- the space that is named
 
@@ -60,13 +60,13 @@ named_in m name f file some = by_content m.content refl (subst (λ (o : Option S
 -- ---- what the manager holds
 
 -- a file at the same place
-pub together_with : (content : Option DeviceContent) (f f' : SpaceFile) → place_in f' ≡ place_in f → IsTogether content (Some f) → IsTogether content (Some f')
-together_with None f f' same is = is
-together_with (Some d) f f' same is = on d.named is
+pub together_with : (content : Option DeviceContent) (f f' : SpaceFile) → place_in f' ≡ place_in f → clusters_in f' ≡ clusters_in f → IsTogether content (Some f) → IsTogether content (Some f')
+together_with None f f' same_place same_clusters is = is
+together_with (Some d) f f' same_place same_clusters is = on d.named is
   where
     on : (named : Option NamedSpace) → IsFileOf d named (Some f) → IsFileOf d named (Some f')
     on None is = is
-    on (Some n) is = same ∙ is
+    on (Some n) is = record { is = same_place ∙ is.is; clusters = same_clusters ∙ is.clusters }
 
 module _ (m : Manager) (d : DeviceContent) (n : NamedSpace) (f : SpaceFile) (content : m.content ≡ Some d) (named : d.named ≡ Some n) (file : m.file ≡ Some f) where
   pub site_known : site_of m ≡ site_at d (Some (placed_of n f)) m.next
@@ -74,7 +74,7 @@ module _ (m : Manager) (d : DeviceContent) (n : NamedSpace) (f : SpaceFile) (con
       ap (λ (o : Option DeviceContent). site_with o m.file m.next) content ∙ ap (λ (o : Option SpaceFile). site_with (Some d) o m.next) file
       ∙ ap (λ (o : Option NamedSpace). site_at d (placed_in o (Some f)) m.next) named
 
-  place_known : place_in f ≡ place_of d n
+  place_known : IsInPlace (place_of d n) f
   place_known =
       subst (λ (o : Option NamedSpace). IsFileOf d o (Some f)) named
       (subst (λ (o : Option SpaceFile). IsTogether (Some d) o) file (subst (λ (o : Option DeviceContent). IsTogether o m.file) content m.fit))
@@ -151,8 +151,11 @@ module _ (m : Manager) (call : SpaceCall) (f : SpaceFile) (file : m.file ≡ Som
   known : site_of m ≡ site_at d (Some (placed_of n f)) m.next
   known = site_known m d n f at.content at.named file
 
+  in_place : IsInPlace (place_of d n) f
+  in_place = place_known m d n f at.content at.named file
+
   place : place_in f ≡ place_of d n
-  place = place_known m d n f at.content at.named file
+  place = in_place.is
 
   arrival_is : next ≡ record { epoch = d.epoch; number = m.next }
   arrival_is = next_is ∙ ap next_arrival known
@@ -171,6 +174,11 @@ module _ (m : Manager) (call : SpaceCall) (f : SpaceFile) (file : m.file ≡ Som
         newer = subst (λ (x : Arrival). IsNewer x.epoch x.number (held_in f)) (sym arrival_is) space.newer;
       }
 
+  -- a call on the space leaves what else the device has
+  stands_after : (old new : List ℕ) → ImageMatches m old → IsSameButSpace (clusters_in f) old new → HasContent d new
+  stands_after old new on same =
+      stands_beside n.pages (clusters_in f) in_place.clusters d old new same (stands_on m d n f at.content at.named file old on)
+
   -- the step, of a place and an arrival
   abbrev after : SpacePlace → Arrival → Outcome
   after p x =
@@ -187,11 +195,12 @@ module _ (m : Manager) (call : SpaceCall) (f : SpaceFile) (file : m.file ≡ Som
   takes_nothing same = ap (λ (x : Outcome). first_logged (durable x.site)) (sym made) ∙ ap first_logged same ∙ ap (λ (x : Site). first_logged (durable x)) known
 
   -- the images within it
-  pub within_call : (a b : View) → ImagesMatch m a → Within 0 IsSameButSpace (IsSameOrChanged f next o) a b → WithinAll (AreEither (site_of m) step.site) a b
-  within_call a b on within = of_one 0 IsSameButSpace (IsSameOrChanged f next o) (AreEither (site_of m) step.site) a b (λ i images was same has. either i images (on i was) same has) within
+  pub within_call : (a b : View) → ImagesMatch m a → Within 0 (IsSameButSpace (clusters_in f)) (IsSameOrChanged f next o) a b → WithinAll (AreEither (site_of m) step.site) a b
+  within_call a b on within = of_one 0 (IsSameButSpace (clusters_in f)) (IsSameOrChanged f next o) (AreEither (site_of m) step.site) a b (λ i images was same has. either i images (on i was) same has) within
     where
-      at_place : (held : IndexedSpace) (logged : ℕ) (c : List ℕ) → HasSpace (place_in f) next.epoch held logged c → HasSpace (place_of d n) d.epoch held logged c
-      at_place held logged c has = subst (λ (k : ℕ). HasSpace (place_of d n) k held logged c) epoch_is (subst (λ (p : SpacePlace). HasSpace p next.epoch held logged c) place has)
+      at_place : (held : IndexedSpace) (logged : ℕ) (c : List ℕ) → HasSpace (place_in f) (clusters_in f) next.epoch held logged c → HasSpace (place_of d n) (space_clusters n.pages) d.epoch held logged c
+      at_place held logged c has =
+          subst (λ (k : ℕ). HasSpace (place_of d n) (space_clusters n.pages) k held logged c) epoch_is (has_there (place_of d n) f next.epoch held logged c in_place has)
 
       changed : (images : Images) → IsPart (part_of d) (images 0) → HasOutcome f next.epoch o (images 0) → ImagesHave step.site images
       changed images part new =
@@ -199,17 +208,17 @@ module _ (m : Manager) (call : SpaceCall) (f : SpaceFile) (file : m.file ≡ Som
           (ap (λ (x : Space). site_at d (Some (record (placed_of n f) { logged = o.logged; space = x })) (next.number + o.numbers)) new.space ∙ sym (ap (λ (x : Outcome). x.site) made))
           (image_at d n new.held o.logged (next.number + o.numbers) images part at.named new.lasts (at_place new.held o.logged (images 0) new.has))
 
-      either : (i : List ℕ) (images : Images) → ImageMatches m i → IsSameButSpace i (images 0) → IsSameOrChanged f next o (images 0) → AreEither (site_of m) step.site images
+      either : (i : List ℕ) (images : Images) → ImageMatches m i → IsSameButSpace (clusters_in f) i (images 0) → IsSameOrChanged f next o (images 0) → AreEither (site_of m) step.site images
       either i images on same has =
-          let part : IsPart (part_of d) (images 0) = part_of_stands d (images 0) (below_stands d i (images 0) same.size same.bytes (stands_on m d n f at.content at.named file i on)) in
+          let part : IsPart (part_of d) (images 0) = part_of_stands d (images 0) (stands_after i (images 0) on same) in
           ⊎_elim
           (λ old. inl (subst (λ (s : Site). ImagesHave s images) (sym known) (image_at d n (held_in f) (logged_in f) m.next images part at.named f.plain (at_place (held_in f) (logged_in f) (images 0) old))))
           (λ new. inr (changed images part new)) has
 
   -- the manager after the call, with the file as the call left it
-  pub after_call : (f' : SpaceFile) (r : Reply) → IsCalled f f' next o r → place_in f' ≡ place_in f → r.numbers ≤ 1 → (m' : Manager) → m'.content ≡ m.content → m'.file ≡ Some f' → m'.next ≡ m.next + r.numbers
-      → (a b : View) → ImagesMatch m a → ((image : List ℕ) → b.may_leave 0 image → Within 0 IsSameButSpace (IsSameOrChanged f next o) a b) → AreFile f' next.epoch b → IsServed step m m' b r.answer
-  after_call f' r called same_place most m' same file' taken a b on within files =
+  pub after_call : (f' : SpaceFile) (r : Reply) → IsCalled f f' next o r → place_in f' ≡ place_in f → clusters_in f' ≡ clusters_in f → r.numbers ≤ 1 → (m' : Manager) → m'.content ≡ m.content → m'.file ≡ Some f' → m'.next ≡ m.next + r.numbers
+      → (a b : View) → ImagesMatch m a → ((image : List ℕ) → b.may_leave 0 image → Within 0 (IsSameButSpace (clusters_in f)) (IsSameOrChanged f next o) a b) → AreFile f' next.epoch b → IsServed step m m' b r.answer
+  after_call f' r called same_place same_clusters most m' same file' taken a b on within files =
       let content' = same ∙ at.content in
       let next_after : m'.next ≡ next.number + o.numbers = taken ∙ (λ i. ap (λ (x : Arrival). x.number) (sym arrival_is) i + called.numbers i) in
       record {
@@ -223,8 +232,8 @@ module _ (m : Manager) (call : SpaceCall) (f : SpaceFile) (file : m.file ≡ Som
             let was = behind a on came_from.image (subst (λ (p : SpacePlace). a.may_leave p.dev came_from.image) (sym place) came_from.was) in
             let there : place_in f' ≡ place_of d n = same_place ∙ place in
             on_from m' d n f' content' at.named file' image
-            (below_stands d came_from.image image came_from.step.size came_from.step.bytes (stands_on m d n f at.content at.named file came_from.image (on came_from.image came_from.was))) (record {
-              place = there;
+            (stands_after came_from.image image (on came_from.image came_from.was) came_from.step) (record {
+              place = record { is = there; clusters = same_clusters ∙ in_place.clusters };
               file = subst (λ (k : ℕ). IsFile f' k image) epoch_is (files image (subst (λ (p : SpacePlace). b.may_leave p.dev image) (sym there) may));
               newer = subst (λ (k : ℕ). IsNewer k m'.next (held_in f')) epoch_is (subst (λ (k : ℕ). IsNewer next.epoch k (held_in f')) (sym next_after) (called.newer was.newer));
             });

@@ -1,3 +1,4 @@
+pub mod SpaceClusterLemmas
 pub mod FoundLemmas
 pub mod TakeLemmas
 pub mod CountLemmas

@@ -1,12 +1,11 @@
 -- How a space is made: what a stop leaves while it is, and what is on the device then.
-use Rattle.std.proofs.Common.{◌≡◌, inl, inr, ⊎_elim, ◌<◌, ◌≤◌, ℕ, ◌+◌, ◌-◌, ◌*◌, List, [], ◌∷◌, ◌++◌, Option, Some, None, refl, sym, ◌∙◌, ap, subst, arith, length, get_or, take, drop}
+use Rattle.std.proofs.Common.{◌≡◌, inl, inr, ⊎_elim, ◌<◌, ◌≤◌, ℕ, ◌+◌, ◌*◌, List, [], ◌∷◌, Option, Some, None, true, refl, sym, ◌∙◌, ap, subst, arith, length, get_or}
 use Rattle.std.specs.Prelude.{option_map, unwrap_or}
 use Rattle.std.specs.Option.{option_and_then}
 use Rattle.std.proofs.lemmas.Bool.Decides.{nat_tests}
-use Rattle.std.proofs.lemmas.List.{ext_get_or, length-drop, get_or-drop}
 use Rattle.tq_host.specs.View.{View, Images}
 use Rattle.tq_host.specs.Within.{KeepsRest, Within}
-use Rattle.tq_host.proofs.Steps.{IsSteps}
+use Rattle.tq_extent.specs.Bytes.{reaches}
 use Rattle.tq_host.proofs.Within.{weaker, in_a_row, wider}
 use Rattle.tq_host.proofs.AllDevices.{of_one}
 use Rattle.tq_model.specs.declared.answer.Answer.{Answer}
@@ -31,76 +30,71 @@ use Rattle.tq_device.specs.declared.content.DeviceContent.{DeviceContent}
 use Rattle.tq_device.specs.declared.content.NamedSpace.{NamedSpace}
 use Rattle.tq_device.specs.Content.{HasContent, part_of, entered, IsLonger, IsSameButTable, IsOldOrEntered, IsAny, IsAnyStep}
 use Rattle.tq_spacefile.specs.declared.file.SpaceFile.{SpaceFile}
-use Rattle.tq_spacefile.specs.File.{IsFormatted, IsSameButSpace, HasSpace, IsFile, place_in, held_in, logged_in}
-use Rattle.tq_spacefile.specs.Place.{space_end, space_bytes, page_of}
+use Rattle.tq_spacefile.specs.File.{IsFormatted, IsSameButSpace, HasSpace, IsFile, place_in, clusters_in, held_in, logged_in}
+use Rattle.tq_spacefile.specs.Place.{page_of}
 use Rattle.tq_run.specs.declared.site.Manager.{Manager}
 use Rattle.tq_run.specs.Manager.{site_of, site_with, site_at, placed_at, placed_in, IsContentOn}
-use Rattle.tq_run.specs.Together.{place_of}
+use Rattle.tq_run.specs.Together.{place_of, space_clusters}
 use Rattle.tq_run.specs.Spaces.{IsShape, IsAdmitted, HasNewSpace, IsNewSpaceOn, IsBareOrNew}
 use Rattle.tq_run.specs.Stops.{ImagesHave, ImagesMatch, AreEither}
 use Rattle.tq_run.specs.Serving.{ChangesOnce}
 use Rattle.tq_run.proofs.FrameLemmas.{others_of_call}
 use Rattle.tq_run.proofs.FoundLemmas.{image_at, image_bare, part_of_stands, content_stands}
-use Rattle.tq_device.proofs.ForCallers.{below_stands}
+use Rattle.tq_run.proofs.SpaceClusterLemmas.{space_end, end_reached, space_stays, stands_beside}
+use Rattle.tq_device.proofs.CreationLemmas.{any_steps}
 use Rattle.tq_device.proofs.Longer.{longer_stands}
-
--- any step of an image
-pub any_steps : IsSteps IsAnyStep
-any_steps = record { none = λ c. tt; both = λ a b c first second. tt }
 
 -- ---- the pages of a space
 
--- what lies from a place on
-drop_same : (at : ℕ) (old new : List ℕ) → length new ≡ length old → ((i : ℕ) → at ≤ i → get_or new i 0 ≡ get_or old i 0) → drop at new ≡ drop at old
-drop_same at old new size bytes =
-    ext_get_or 0 (drop at new) (drop at old) (length-drop at new ∙ ap (λ n. n - at) size ∙ sym (length-drop at old))
-    (λ i lt. get_or-drop at new i 0 ∙ bytes (at + i) (omega arith) ∙ sym (get_or-drop at old i 0))
-
 -- pages that are formatted stay so where the bytes behind the header do
-pub formatted_kept : (shape : Shape) (old new : List ℕ) → length new ≡ length old → ((i : ℕ) → 131072 ≤ i → get_or new i 0 ≡ get_or old i 0) → IsFormatted shape old → IsFormatted shape new
-formatted_kept shape old new size bytes is =
-    let same : space_bytes shape.pages new ≡ space_bytes shape.pages old = ap (λ (l : List ℕ). take (32768 * clusters_for shape.pages) l ++ []) (drop_same 131072 old new size bytes) in
-    record {
+pub formatted_kept : (shape : Shape) (clusters old new : List ℕ) → clusters ≡ space_clusters shape.pages → length new ≡ length old → ((i : ℕ) → 131072 ≤ i → get_or new i 0 ≡ get_or old i 0)
+    → IsFormatted shape clusters old → IsFormatted shape (space_clusters shape.pages) new
+formatted_kept shape clusters old new own size bytes is =
+    let same = space_stays shape.pages clusters own old new size bytes in
+    subst (λ (l : List ℕ). IsFormatted shape l new) own (record {
       page = ap (λ (b : List ℕ). hold_all (page_tests shape.pages (raw_space (first_page b)))) same ∙ is.page;
       shape_is = ap (λ (b : List ℕ). shape_of shape.pages (raw_space (first_page b))) same ∙ is.shape_is;
       empty = ap (payloads_in shape.pages) same ∙ is.empty;
-    }
+    })
 
 -- what is read of pages that are formatted
-pub formatted_has : (d : DeviceContent) (n : NamedSpace) (shape : Shape) (epoch : ℕ) (image : List ℕ) → shape.pages ≡ n.pages → IsFormatted shape image → space_end shape.pages ≤ length image
-    → HasSpace (place_of d n) epoch (empty_space shape d.site (8 * n.ordinal + 0)) 0 image
+pub formatted_has : (d : DeviceContent) (n : NamedSpace) (shape : Shape) (epoch : ℕ) (image : List ℕ) → shape.pages ≡ n.pages
+    → IsFormatted shape (space_clusters shape.pages) image → reaches (space_clusters shape.pages) image ≡ true
+    → HasSpace (place_of d n) (space_clusters n.pages) epoch (empty_space shape d.site (8 * n.ordinal + 0)) 0 image
 formatted_has d n shape epoch image pages is reach =
     let number = 8 * n.ordinal + 0 in
-    subst (λ p. HasSpace (record { dev = 0; pages = p; site = d.site; number = number }) epoch (empty_space shape d.site number) 0 image) pages
+    subst (λ p. HasSpace (record { dev = 0; pages = p; site = d.site; number = number }) (space_clusters p) epoch (empty_space shape d.site number) 0 image) pages
     (record {
       reach = reach;
       page = is.page;
       payloads = [];
       reads =
-          ap (option_and_then (λ (payloads : List (List ℕ)). option_map (λ (s : IndexedSpace). record { payloads = payloads; space = s }) (replayed epoch payloads (empty_space (shape_of shape.pages (raw_space (page_of shape.pages image))) d.site number)))) is.empty
+          ap (option_and_then (λ (payloads : List (List ℕ)). option_map (λ (s : IndexedSpace). record { payloads = payloads; space = s }) (replayed epoch payloads (empty_space (shape_of shape.pages (raw_space (page_of (space_clusters shape.pages) image))) d.site number)))) is.empty
           ∙ ap (λ (s : Shape). Some (record { payloads = []; space = empty_space s d.site number })) is.shape_is;
       ends = refl;
     })
 
 -- ---- while the space is laid out
 
-module _ (d : DeviceContent) (name : List ℕ) (shape : Shape) where
+module _ (d : DeviceContent) (name : List ℕ) (shape : Shape) (clusters : List ℕ) (own : clusters ≡ space_clusters shape.pages) where
   -- the device gets its length
   pub growing : (a b : View) → d.named ≡ None → ((c : List ℕ) → a.may_leave 0 c → HasContent d c) → Within 0 IsLonger IsAny a b → Within 0 IsAnyStep (HasContent d) a b
   growing a b bare stand within = wider 0 IsLonger IsAnyStep IsAny (HasContent d) a b (λ i c was step any. (tt, longer_stands d i c bare step (stand i was))) within
 
   -- the space gets its pages
-  formatting : (a b : View) → ((c : List ℕ) → a.may_leave 0 c → HasContent d c) → Within 0 IsSameButSpace IsAny a b → Within 0 IsAnyStep (HasContent d) a b
-  formatting a b stand within = wider 0 IsSameButSpace IsAnyStep IsAny (HasContent d) a b (λ i c was step any. (tt, below_stands d i c step.size step.bytes (stand i was))) within
+  formatting : (a b : View) → ((c : List ℕ) → a.may_leave 0 c → HasContent d c) → Within 0 (IsSameButSpace clusters) IsAny a b → Within 0 IsAnyStep (HasContent d) a b
+  formatting a b stand within = wider 0 (IsSameButSpace clusters) IsAnyStep IsAny (HasContent d) a b (λ i c was step any. (tt, stands_beside shape.pages clusters own d i c step (stand i was))) within
 
   -- the device gets its length, and then the space its pages
-  pub preparing : (a b e : View) → d.named ≡ None → ((c : List ℕ) → a.may_leave 0 c → HasContent d c) → Within 0 IsLonger IsAny a b → Within 0 IsSameButSpace IsAny b e → Within 0 IsAnyStep (HasContent d) a e
+  pub preparing : (a b e : View) → d.named ≡ None → ((c : List ℕ) → a.may_leave 0 c → HasContent d c) → Within 0 IsLonger IsAny a b
+      → Within 0 (IsSameButSpace clusters) IsAny b e → Within 0 IsAnyStep (HasContent d) a e
   preparing a b e bare stand first second =
       let grown = growing a b bare stand first in
       in_a_row 0 IsAnyStep any_steps (HasContent d) a b e grown (formatting b e (λ c may. (grown.own c may).now) second)
 
   -- the space comes into the table
-  pub entering : (a b : View) → ((c : List ℕ) → a.may_leave 0 c → IsFormatted shape c × (space_end shape.pages ≤ length c)) → Within 0 IsSameButTable (IsOldOrEntered d (name, shape.pages)) a b → Within 0 IsAnyStep (IsBareOrNew d name shape) a b
+  pub entering : (a b : View) → ((c : List ℕ) → a.may_leave 0 c → IsFormatted shape clusters c × (space_end shape.pages ≤ length c))
+      → Within 0 IsSameButTable (IsOldOrEntered d (name, shape.pages)) a b → Within 0 IsAnyStep (IsBareOrNew d name shape) a b
   entering a b formatted within =
       wider 0 IsSameButTable IsAnyStep (IsOldOrEntered d (name, shape.pages)) (IsBareOrNew d name shape) a b (λ i c was step is. (
         tt,
@@ -108,8 +102,8 @@ module _ (d : DeviceContent) (name : List ℕ) (shape : Shape) where
             (λ old. inl (record { size = old.size; tests = old.tests; part = old.part }))
             (λ new. inr (record {
               parts = record { size = new.size; tests = new.tests; part = new.part };
-              formatted = formatted_kept shape i c step.size (λ k le. step.bytes k (inr (omega arith)) (inr (omega arith))) (formatted i was).0;
-              reach = omega (arith, step.size, (formatted i was).1);
+              formatted = formatted_kept shape clusters i c own step.size (λ k le. step.bytes k (inr (omega arith)) (inr (omega arith))) (formatted i was).0;
+              reach = end_reached shape.pages (space_clusters shape.pages) refl c (omega (arith, step.size, (formatted i was).1));
             })) is,
       )) within
 
@@ -216,14 +210,15 @@ module _ (d e : DeviceContent) (name : List ℕ) (shape : Shape) (f : SpaceFile)
       ∙ ap (λ k. site_at (entered d name shape.pages) (Some (placed_at (new_named d name shape.pages) k (new_held d shape))) next) logged
 
   -- an image with the new space has it as it is in memory
-  pub new_file_on : place_in f ≡ record { dev = 0; pages = shape.pages; site = d.site; number = 8 * d.next_space } → ((epoch : ℕ) (image : List ℕ) → IsFormatted shape image → space_end shape.pages ≤ length image → IsFile f epoch image)
+  pub new_file_on : place_in f ≡ record { dev = 0; pages = shape.pages; site = d.site; number = 8 * d.next_space } → clusters_in f ≡ space_clusters shape.pages
+      → ((epoch : ℕ) (image : List ℕ) → IsFormatted shape (space_clusters shape.pages) image → reaches (space_clusters shape.pages) image ≡ true → IsFile f epoch image)
       → (image : List ℕ) → HasNewSpace e shape image → IsContentOn (Some e) (Some f) next image
-  new_file_on place on image has =
+  new_file_on place clusters on image has =
       subst (λ (x : DeviceContent). HasContent x image → IsContentOn (Some x) (Some f) next image) (sym is)
       (λ stands. record {
         stands = stands;
         space = record {
-          place = place ∙ ap (λ n. record { dev = 0; pages = shape.pages; site = d.site; number = n }) (at_number d);
+          place = record { is = place ∙ ap (λ n. record { dev = 0; pages = shape.pages; site = d.site; number = n }) (at_number d); clusters = clusters };
           file = on d.epoch image has.formatted has.reach;
           newer = subst (λ (s : IndexedSpace). IsNewer d.epoch next s) (sym held_new) (empty_ids (IsBefore d.epoch next) shape d.site (8 * d.next_space + 0));
         };

@@ -9,7 +9,7 @@ use Rattle.tq_space.specs.declared.plans.Plan.{Plan}
 use Rattle.tq_space.specs.Applied.{plan_applied}
 use Rattle.tq_space.specs.Loggable.{IsDurable}
 use Rattle.tq_spacefile.specs.declared.file.SpaceFile.{SpaceFile}
-use Rattle.tq_spacefile.specs.File.{place_in, held_in, logged_in, HasSpace, IsFile}
+use Rattle.tq_spacefile.specs.File.{place_in, clusters_in, held_in, logged_in, HasSpace, IsFile}
 use Rattle.tq_run.specs.SpaceCalls.{outcome_of}
 use Rattle.tq_run.specs.declared.planning.SpaceCall.{SpaceCall}
 use Rattle.tq_run.specs.declared.planning.Planned.{Planned}
@@ -50,11 +50,11 @@ pub record HasOutcome (f : SpaceFile) (epoch : ℕ) (o : LoggedOutcome) (image :
   pub held : IndexedSpace
   pub space : space_of held ≡ o.space
   pub lasts : KeepsAllAtCrash held
-  pub has : HasSpace (place_in f) epoch held o.logged image
+  pub has : HasSpace (place_in f) (clusters_in f) epoch held o.logged image
 
 -- an image has the space as it was, or as the call leaves it
 abbrev pub IsSameOrChanged : SpaceFile → Arrival → LoggedOutcome → List ℕ → Type 0
-IsSameOrChanged f next o image = HasSpace (place_in f) next.epoch (held_in f) (logged_in f) image ⊎ HasOutcome f next.epoch o image
+IsSameOrChanged f next o image = HasSpace (place_in f) (clusters_in f) next.epoch (held_in f) (logged_in f) image ⊎ HasOutcome f next.epoch o image
 
 -- an image has the file, and the arrival is newer than all of it
 pub record IsBehind (f : SpaceFile) (next : Arrival) (image : List ℕ) : Type 0 where

@@ -12,9 +12,9 @@ use Rattle.tq_device.specs.declared.content.DeviceContent.{DeviceContent}
 use Rattle.tq_device.specs.declared.content.NamedSpace.{NamedSpace}
 use Rattle.tq_device.specs.Content.{HasContent}
 use Rattle.tq_spacefile.specs.declared.file.SpaceFile.{SpaceFile}
-use Rattle.tq_spacefile.specs.File.{IsFile, place_in, held_in, logged_in}
+use Rattle.tq_spacefile.specs.File.{IsFile, held_in, logged_in}
 use Rattle.tq_run.specs.declared.site.Manager.{Manager}
-use Rattle.tq_run.specs.Together.{place_of}
+use Rattle.tq_run.specs.Together.{place_of, IsInPlace}
 use Rattle.tq_run.specs.Words.{device_count}
 
 -- The site
@@ -51,7 +51,7 @@ site_of m = site_with m.content m.file m.next
 
 -- An image has the space that the table names; the next message is newer than all of its.
 pub record IsSpaceOn (d : DeviceContent) (n : NamedSpace) (f : SpaceFile) (next : ℕ) (image : List ℕ) : Type 0 where
-  pub place : place_in f ≡ place_of d n
+  pub place : IsInPlace (place_of d n) f
   pub file : IsFile f d.epoch image
   pub newer : IsNewer d.epoch next (held_in f)
 
@@ -84,7 +84,7 @@ abbrev pub IsFileAt : DeviceContent → Option NamedSpace → Option SpaceFile �
 IsFileAt d None None image = Unit {0}
 IsFileAt d None (Some f) image = ⊥
 IsFileAt d (Some n) None image = ⊥
-IsFileAt d (Some n) (Some f) image = (place_in f ≡ place_of d n) × IsFile f d.epoch image
+IsFileAt d (Some n) (Some f) image = IsInPlace (place_of d n) f × IsFile f d.epoch image
 
 pub record IsLoaded (d : DeviceContent) (file : Option SpaceFile) (image : List ℕ) : Type 0 where
   pub stands : HasContent d image

@@ -1,5 +1,6 @@
 -- How a space is made.
-use Rattle.std.specs.Prelude.{◌≡◌, ◌<◌, ◌≤◌, ◌+◌, ◌⊎◌, ℕ, List, length, Some, None}
+use Rattle.std.specs.Prelude.{◌≡◌, ◌<◌, ◌≤◌, ◌+◌, ◌⊎◌, ℕ, List, true, Some, None}
+use Rattle.tq_extent.specs.Bytes.{reaches}
 use Rattle.tq_model.specs.declared.space.Shape.{Shape}
 use Rattle.tq_model.specs.declared.request.SpaceCreation.{SpaceCreation}
 use Rattle.tq_model.specs.Space.{overhead_pages}
@@ -9,9 +10,9 @@ use Rattle.tq_model.specs.Parts.{IsPart}
 use Rattle.tq_device.specs.declared.content.DeviceContent.{DeviceContent}
 use Rattle.tq_device.specs.Content.{HasContent, part_of, entered}
 use Rattle.tq_spacefile.specs.File.{IsFormatted}
-use Rattle.tq_spacefile.specs.Place.{space_end}
 use Rattle.tq_run.specs.declared.site.Manager.{Manager}
 use Rattle.tq_run.specs.Manager.{site_of}
+use Rattle.tq_run.specs.Together.{space_clusters}
 
 -- a shape within the limits of spaces
 pub record IsShape (s : Shape) : Type 0 where
@@ -35,14 +36,14 @@ pub record IsAdmitted (m : Manager) (c : SpaceCreation) (d : DeviceContent) : Ty
 -- an image of a device with the pages of a new space, which its table names
 pub record HasNewSpace (d : DeviceContent) (shape : Shape) (image : List ℕ) : Type 0 where
   pub stands : HasContent d image
-  pub formatted : IsFormatted shape image
-  pub reach : space_end shape.pages ≤ length image
+  pub formatted : IsFormatted shape (space_clusters shape.pages) image
+  pub reach : reaches (space_clusters shape.pages) image ≡ true
 
 -- The parts of a device without a space, or those with the new one and its pages.
 pub record IsNewSpaceOn (d : DeviceContent) (name : List ℕ) (shape : Shape) (image : List ℕ) : Type 0 where
   pub parts : IsPart (part_of (entered d name shape.pages)) image
-  pub formatted : IsFormatted shape image
-  pub reach : space_end shape.pages ≤ length image
+  pub formatted : IsFormatted shape (space_clusters shape.pages) image
+  pub reach : reaches (space_clusters shape.pages) image ≡ true
 
 abbrev pub IsBareOrNew : DeviceContent → List ℕ → Shape → List ℕ → Type 0
 IsBareOrNew d name shape image = IsPart (part_of d) image ⊎ IsNewSpaceOn d name shape image

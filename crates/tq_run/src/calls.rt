@@ -4,7 +4,7 @@ ghost use Rattle.std.specs.Prelude.{◌≡◌, ◌<◌, ◌≤◌, ◌+◌, IfOk
 ghost use Rattle.tq_host.specs.Within.{Within};
 ghost use Rattle.tq_model.specs.Site.{durable};
 ghost use Rattle.tq_model.specs.Step.{next_arrival, enqueue_ask, dequeue_ask, refusal_answer, call_step, on_space};
-ghost use Rattle.tq_spacefile.specs.File.{place_in, logged_in, AreFile, IsSameButSpace};
+ghost use Rattle.tq_spacefile.specs.File.{place_in, clusters_in, logged_in, AreFile, IsSameButSpace};
 ghost use Rattle.tq_run.specs.Calls.{IsCalled, IsSameOrChanged, AreBehind, outcome_in, logged_outcome_in};
 ghost use Rattle.tq_run.specs.Manager.{site_of};
 ghost use Rattle.tq_run.specs.Serving.{IsServed, ChangesOnce, CountsFailure, HasFailed};
@@ -45,8 +45,9 @@ fn call_file<H: Host>(
     ensures called { IfOk result (IsCalled file.old file.new next (logged_outcome_in file.old (outcome_in file.old call))) }
     ensures most { IfOk result (λ reply. reply.numbers ≤ 1) }
     ensures place { place_in file.new ≡ place_in file.old }
+    ensures clusters { clusters_in file.new ≡ clusters_in file.old }
     ensures on { OnOk result (AreFile file.new next.epoch (H.view host.new)) }
-    ensures stop { H.tells.stops → Within 0 IsSameButSpace
+    ensures stop { H.tells.stops → Within 0 (IsSameButSpace (clusters_in file.old))
         (IsSameOrChanged file.old next (logged_outcome_in file.old (outcome_in file.old call))) (H.view host.old) (H.view host.new) }
     ensures failed { HasFailed result (H.view host.old) (H.view host.new) }
     // what takes nothing of the log makes no call of the host

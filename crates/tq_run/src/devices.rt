@@ -1,10 +1,12 @@
-ghost use Rattle.std.specs.Prelude.{◌≡◌, ◌≤◌, IfOk, IfNone, None, is_some, map};
+ghost use Rattle.std.specs.Prelude.{◌≡◌, ◌≤◌, ◌∷◌, [], IfOk, IfNone, None, is_some, map};
 ghost use Rattle.tq_host.specs.Calls.{HasCause};
 ghost use Rattle.tq_model.specs.Step.{device_step, creation_refusal, create_device, list_device, ready, site_asked};
 ghost use Rattle.tq_run.specs.Stops.{ImagesMatch};
+ghost use Rattle.tq_run.specs.Together.{space_clusters};
 ghost use Rattle.tq_run.specs.Manager.{site_of, placed_in, placed_of, volume_in};
 ghost use Rattle.tq_run.specs.Serving.{IsServed, ChangesOnce, CountsFailure};
-ghost use Rattle.tq_model.specs.Site.{durable, capacity_of, clusters_for, space_count, spaces_on};
+ghost use Rattle.tq_extent.specs.Pages.{page_count};
+ghost use Rattle.tq_model.specs.Site.{durable, capacity_of, clusters_for, most_pages, space_count, spaces_on};
 ghost use Rattle.tq_model.specs.Parts.{first_extents};
 ghost use Rattle.tq_model.specs.Step.{space_line};
 
@@ -12,6 +14,7 @@ use crate::site::Manager;
 use crate::status::Failure;
 use std::alloc::{AllocError, Global};
 use tq_device::{DeviceContent, NamedSpace, create};
+use tq_extent::PageMap;
 use tq_host::{Failed, Host};
 use tq_model::{
     Answer, Capacity, Creation, DeviceAnswer, DeviceRequest, Extent, Extents, Field, Identity,
@@ -97,6 +100,25 @@ pub fn clusters_for(pages: u32) -> u32
     pages / 32 + (pages % 32 + 31) / 32
 }
 
+// The clusters of a space with so many pages: the first ones behind the header's.
+fn space_extent(pages: u32) -> Extent
+    ensures { result ∷ [] ≡ first_extents pages }
+{
+    Extent {
+        first: 4,
+        count: clusters_for(pages),
+    }
+}
+
+// Where the pages of such a space lie.
+pub fn space_map(alloc: Global, pages: u32) -> Result<PageMap, AllocError>
+    requires { pages ≤ most_pages }
+    ensures clusters { IfOk result (λ map. map ≡ space_clusters pages) }
+    ensures enough { IfOk result (λ map. pages ≤ page_count map) }
+{
+    PageMap::of(alloc, &[space_extent(pages)])
+}
+
 // The clusters of a device, and those that its header and its space leave.
 pub fn capacity_of(content: &DeviceContent, file: &Option<SpaceFile>) -> Capacity
     ensures { result ≡ capacity_of (volume_in file.now content.now) }
@@ -116,10 +138,7 @@ fn line_of(alloc: Global, named: &NamedSpace, file: &SpaceFile) -> Result<SpaceL
     ensures { IfOk result (λ line. line ≡ space_line (placed_of named.now file.now)) }
 {
     let mut extents = Extents::new(alloc);
-    extents.push(Extent {
-        first: 4,
-        count: clusters_for(named.pages),
-    })?;
+    extents.push(space_extent(named.pages))?;
     Ok(SpaceLine {
         name: named.name,
         number: file.space().number(),

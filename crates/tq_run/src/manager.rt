@@ -13,6 +13,7 @@ ghost use Rattle.tq_run.specs.Manager.{is_bootable, IsBooted, IsLoaded, IsRaised
 ghost use Rattle.tq_run.specs.Together.{place_of, IsTogether};
 ghost use Rattle.tq_run.specs.Words.{device_count};
 
+use crate::devices::space_map;
 use crate::site::Manager;
 use crate::status::BootFailure;
 use std::alloc::Global;
@@ -69,7 +70,9 @@ fn load_space<H: Host>(
         None => Ok(None),
         Some(named) => {
             let place = place_of(content, &named);
-            Ok(Some(SpaceFile::load(alloc, host, &place, content.epoch)?))
+            let map = space_map(alloc, named.pages)?;
+            let file = SpaceFile::load(alloc, host, &place, map, content.epoch)?;
+            Ok(Some(file))
         }
     }
 }

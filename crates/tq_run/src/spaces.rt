@@ -10,14 +10,17 @@ ghost use Rattle.tq_run.specs.Stops.{ImagesMatch};
 ghost use Rattle.tq_run.specs.Manager.{site_of, volume_in};
 ghost use Rattle.tq_run.specs.Serving.{IsServed, ChangesOnce, CountsFailure};
 ghost use Rattle.tq_run.specs.Spaces.{IsShape, IsAdmitted, HasNewSpace, IsBareOrNew};
+ghost use Rattle.tq_run.specs.Together.{space_clusters};
+ghost use Rattle.tq_extent.specs.Pages.{page_count};
 
 use crate::calls::call_space;
-use crate::devices::{capacity_of, clusters_for, has_space};
+use crate::devices::{capacity_of, clusters_for, has_space, space_map};
 use crate::planning::SpaceCall;
 use crate::site::Manager;
 use crate::status::Failure;
 use std::alloc::Global;
 use tq_device::{DeviceContent, enter, grow};
+use tq_extent::PageMap;
 use tq_host::{Failed, Host};
 use tq_model::{
     Answer, CLUSTER_BYTES, ClusterRoom, DeviceAnswer, Field, HEADER_BYTES, LAST_SPACE, MOST_MEMORY,
@@ -153,8 +156,11 @@ fn lay_out<H: Host>(
     content: &DeviceContent,
     name: Name,
     shape: &Shape,
+    map: &PageMap,
 ) -> Result<DeviceContent, Failed>
     requires shape { IsShape shape.now }
+    requires map { map.now ≡ space_clusters shape.now.pages }
+    requires enough { shape.now.pages ≤ page_count map.now }
     requires bare { content.now.named ≡ None }
     requires ordinals { content.now.next_space < 268435455 }
     requires clusters { 4 + clusters_for shape.now.pages ≤ content.now.clusters }
@@ -169,29 +175,30 @@ fn lay_out<H: Host>(
 {
     let end = HEADER_BYTES + CLUSTER_BYTES * u64::from(clusters_for(shape.pages));
     grow(host, 0, end)?;
-    format(host, 0, shape)?;
+    format(host, 0, map, shape)?;
     enter(host, 0, content, name, shape.pages)
 }
 
-// Makes a space, where nothing refuses it.
+// Makes a space, where nothing refuses it. All memory is taken before the device is written to.
 fn make_space<H: Host>(
     alloc: Global,
     host: &mut H,
     manager: &mut Manager,
     content: &DeviceContent,
     creation: &SpaceCreation,
-) -> Result<Answer, Failed>
+) -> Result<Answer, Failure>
     requires admitted { IsAdmitted manager.old creation.now content.now }
     requires on { ImagesMatch manager.old (H.view host.old) }
     ensures served { IfOk result (IsServed (create_space creation.now (site_of manager.old)) manager.old manager.new (H.view host.new)) }
     ensures stop { ChangesOnce (create_space creation.now (site_of manager.old)) manager.old (H.view host.old) (H.view host.new) }
-    ensures failed { HasCause (H.view host.old).faults (H.view host.new).faults result }
+    ensures failed { CountsFailure result (H.view host.old).faults (H.view host.new).faults }
     ensures idle { durable (create_space creation.now (site_of manager.old)).site ≡ durable (site_of manager.old) → host.new ≡ host.old }
 {
     let shape = shape_of(creation);
     let number = 8 * content.next_space;
     let pages = pages_of(creation);
-    let entered = lay_out(host, content, creation.name, &shape)?;
+    let map = space_map(alloc, shape.pages)?;
+    let entered = lay_out(host, content, creation.name, &shape, &map)?;
     let place = SpacePlace {
         dev: 0,
         pages: shape.pages,
@@ -200,7 +207,7 @@ fn make_space<H: Host>(
     };
     *manager = Manager {
         content: Some(entered),
-        file: Some(SpaceFile::new(alloc, &place, &shape)),
+        file: Some(SpaceFile::new(alloc, &place, map, &shape)),
         next: manager.next,
     };
     Ok(Answer::Space(SpaceAnswer::Created(NewSpace { number, pages })))
@@ -212,11 +219,11 @@ fn create_space<H: Host>(
     host: &mut H,
     manager: &mut Manager,
     creation: &SpaceCreation,
-) -> Result<Answer, Failed>
+) -> Result<Answer, Failure>
     requires on { ImagesMatch manager.old (H.view host.old) }
     ensures served { IfOk result (IsServed (create_space creation.now (site_of manager.old)) manager.old manager.new (H.view host.new)) }
     ensures stop { ChangesOnce (create_space creation.now (site_of manager.old)) manager.old (H.view host.old) (H.view host.new) }
-    ensures failed { HasCause (H.view host.old).faults (H.view host.new).faults result }
+    ensures failed { CountsFailure result (H.view host.old).faults (H.view host.new).faults }
     ensures idle { durable (create_space creation.now (site_of manager.old)).site ≡ durable (site_of manager.old) → host.new ≡ host.old }
 {
     match admitted(manager, creation) {
@@ -240,7 +247,7 @@ pub fn serve_space<H: Host>(
     ensures idle { durable (space_step (site_of manager.old) request.now).site ≡ durable (site_of manager.old) → host.new ≡ host.old }
 {
     match request {
-        SpaceRequest::Create(creation) => Ok(create_space(alloc, host, manager, creation)?),
+        SpaceRequest::Create(creation) => create_space(alloc, host, manager, creation),
         SpaceRequest::CreateQueue(creation) => {
             let call = SpaceCall::CreateQueue(QueueCreation {
                 space: creation.space,

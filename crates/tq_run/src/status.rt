@@ -103,6 +103,16 @@ impl From<FileError> for BootFailure {
     }
 }
 
+impl From<AllocError> for BootFailure {
+    ghost use Rattle.tq_run.specs.declared.status.BootFailure.TheVariants.{Memory};
+
+    ghost from_gives = { λ _ e. e ≡ Memory };
+
+    fn from(_no_memory: AllocError) -> BootFailure {
+        BootFailure::Memory
+    }
+}
+
 impl From<Failed> for BootFailure {
     ghost use Rattle.tq_run.specs.declared.status.BootFailure.TheVariants.{Device};
 

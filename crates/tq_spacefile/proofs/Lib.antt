@@ -2,7 +2,6 @@ pub mod Places
 pub mod Payloads
 pub mod Pages
 pub mod Formats
-pub mod LogicalBytes
 pub mod Logs
 pub mod Files
 pub mod Commits

@@ -157,7 +157,8 @@ raw_space-page_spelt s fits =
     }
 
 -- Where a first page begins as it was spelt, its fields are those of the shape.
-pub raw_space-spelt : (s : Shape) → is_creation s ≡ true → (page : List ℕ) → HasBytesAt 0 (page_spelt s) page → length (page_spelt s) ≤ length page → raw_space page ≡ raw_of s
+pub raw_space-spelt : (s : Shape) → is_creation s ≡ true → (page : List ℕ) → HasBytesAt 0 (page_spelt s) page → length (page_spelt s) ≤ length page
+    → raw_space page ≡ raw_of s
 raw_space-spelt s within page stands long =
     let p = page_spelt s in
     let whole = length-page_spelt s in
@@ -207,7 +208,8 @@ page_tests_are pages r =
     (r.error_size == 0 || is_name r.error) (nat_lt (overhead_pages (shape_of pages r)) pages)
     ∙ ap (λ (e : Bool). bytes_eq r.mark (codes "TQSPROV1") && (r.version == 1) && (are_limits (shape_of pages r) && e)) (is_error-named (r.error_size == 0) r.error)
 
-pub shape_in_is : (pages : ℕ) (page : List ℕ) → shape_in pages page ≡ (if is_first_page pages (raw_space page) then Some (shape_of pages (raw_space page)) else None)
+pub shape_in_is : (pages : ℕ) (page : List ℕ)
+    → shape_in pages page ≡ (if is_first_page pages (raw_space page) then Some (shape_of pages (raw_space page)) else None)
 shape_in_is pages page = ap (λ (t : Bool). if t then Some (shape_of pages (raw_space page)) else None) (page_tests_are pages (raw_space page))
 
 is_first_page-raw_of : (s : Shape) → is_creation s ≡ true → is_first_page s.pages (raw_of s) ≡ true
@@ -223,7 +225,8 @@ module _ (s : Shape) (within : is_creation s ≡ true) (page : List ℕ) (stands
   page_tests-spelt = page_tests_are s.pages (raw_space page) ∙ ap (is_first_page s.pages) (raw_space-spelt s within page stands long) ∙ is_first_page-raw_of s within
 
 -- a page that begins so is read back
-pub shape_in-spelt : (s : Shape) → is_creation s ≡ true → (page : List ℕ) → IsZeroPadded (page_spelt s) page → length (page_spelt s) ≤ length page → shape_in s.pages page ≡ Some s
+pub shape_in-spelt : (s : Shape) → is_creation s ≡ true → (page : List ℕ) → IsZeroPadded (page_spelt s) page → length (page_spelt s) ≤ length page
+    → shape_in s.pages page ≡ Some s
 shape_in-spelt s within page begins long =
     let stands : HasBytesAt 0 (page_spelt s) page = λ i below. ap (λ (k : ℕ). get_or page k 0) (zero-add i) ∙ begins i in
     ap (λ (t : Bool). if t then Some (shape_of s.pages (raw_space page)) else None) (page_tests-spelt s within page stands long)

@@ -22,7 +22,8 @@ use Rattle.tq_spacefile.specs.Payload.{IsArrival, IsInRange}
 use Rattle.tq_spacefile.proofs.Places.{number_behind}
 
 -- an arrival whose two numbers stand behind these bytes
-arrival_behind : (at : ℕ) (a : Arrival) (xs ys all : List ℕ) → all ≡ xs ++ (digits 4 a.epoch ++ (digits 4 a.number ++ ys)) → length xs ≡ at → IsArrival a → arrival_at at all ≡ a
+arrival_behind : (at : ℕ) (a : Arrival) (xs ys all : List ℕ) → all ≡ xs ++ (digits 4 a.epoch ++ (digits 4 a.number ++ ys)) → length xs ≡ at → IsArrival a
+    → arrival_at at all ≡ a
 arrival_behind at a xs ys all is long fits =
     let regrouped : all ≡ (xs ++ digits 4 a.epoch) ++ (digits 4 a.number ++ ys) = is ∙ sym (append_assoc xs (digits 4 a.epoch) (digits 4 a.number ++ ys)) in
     let epoch = number_behind at 4 a.epoch xs (digits 4 a.number ++ ys) all is long fits.0 in
@@ -30,7 +31,8 @@ arrival_behind at a xs ys all is long fits =
     let number = number_behind (at + 4) 4 a.number (xs ++ digits 4 a.epoch) ys all regrouped behind fits.1 in
     λ i. record { epoch = epoch i; number = number i }
 
-added_read : (queue : ℕ) (a : Arrival) (body b : List ℕ) → b ≡ digits 2 queue ++ (digits 4 a.epoch ++ (digits 4 a.number ++ body)) → queue < 2 ^ 16 → IsArrival a → length body ≤ longest_body
+added_read : (queue : ℕ) (a : Arrival) (body b : List ℕ) → b ≡ digits 2 queue ++ (digits 4 a.epoch ++ (digits 4 a.number ++ body)) → queue < 2 ^ 16
+    → IsArrival a → length body ≤ longest_body
     → added_in b ≡ Some (Added queue a body)
 added_read queue a body b is queue_fits arrival_fits short =
     let q = digits 2 queue in
@@ -55,7 +57,8 @@ gone_read a b is fits =
     let arrival = arrival_behind 0 a [] [] b (is ∙ ap (λ (l : List ℕ). e ++ l) (sym (append-nil n))) refl fits in
     ap (λ (t : Bool). if t then Some (Gone (arrival_at 0 b)) else None) (eq-eqb (length b) 8 whole) ∙ λ i. Some (Gone (arrival i))
 
-queue_read : (index : ℕ) (name b : List ℕ) → b ≡ digits 2 index ++ length name ∷ name → index < 2 ^ 16 → is_name name ≡ true → queue_in b ≡ Some (QueueMade index name)
+queue_read : (index : ℕ) (name b : List ℕ) → b ≡ digits 2 index ++ length name ∷ name → index < 2 ^ 16 → is_name name ≡ true
+    → queue_in b ≡ Some (QueueMade index name)
 queue_read index name b is fits is_one =
     let q = digits 2 index in
     let regrouped : b ≡ (q ++ length name ∷ []) ++ name = is ∙ sym (append_assoc q (length name ∷ []) name) in

@@ -21,7 +21,8 @@ run_at-run_at k m at n bytes within =
     ∙ ap (take m) (drop-drop k at bytes)
 
 -- zeros behind some bytes are written over
-pub put_behind : (at : ℕ) (start run old : List ℕ) → at + length run ≤ length old → length start ≡ at → IsZeroPadded start old → IsZeroPadded (start ++ run) (with_run at (length run) run old)
+pub put_behind : (at : ℕ) (start run old : List ℕ) → at + length run ≤ length old → length start ≡ at → IsZeroPadded start old
+    → IsZeroPadded (start ++ run) (with_run at (length run) run old)
 put_behind at start run old within long begins i = elim (before_or_after i at) [
   | inl below ↦
       get_or-with_run_below at (length run) run old i 0 below (omega arith) ∙ begins i
@@ -40,7 +41,8 @@ put_behind at start run old within long begins i = elim (before_or_after i at) [
 ]
 
 -- the same, where the run is known by an equation
-pub put_spelt : (at : ℕ) (start run is old new : List ℕ) → ((s : List ℕ) → length s ≡ at → IsZeroPadded s old → IsZeroPadded (s ++ run) new) → run ≡ is → length start ≡ at → IsZeroPadded start old → IsZeroPadded (start ++ is) new
+pub put_spelt : (at : ℕ) (start run is old new : List ℕ) → ((s : List ℕ) → length s ≡ at → IsZeroPadded s old → IsZeroPadded (s ++ run) new) → run ≡ is
+    → length start ≡ at → IsZeroPadded start old → IsZeroPadded (start ++ is) new
 put_spelt at start run is old new puts same long begins = subst (λ (r : List ℕ). IsZeroPadded (start ++ r) new) same (puts start long begins)
 
 zero_ends : (xs : List ℕ) (i : ℕ) → get_or (xs ++ 0 ∷ []) i 0 ≡ get_or xs i 0

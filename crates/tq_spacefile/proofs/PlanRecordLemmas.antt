@@ -6,7 +6,7 @@ use Rattle.tq_host.specs.Within.{Within}
 use Rattle.tq_host.proofs.Within.{starts}
 use Rattle.tq_host.proofs.QuietLemmas.{rest_start}
 use Rattle.tq_gate.specs.declared.layout.Layout.{Layout}
-use Rattle.tq_gate.specs.Layout.{log_length}
+use Rattle.tq_gate.specs.Layout.{clusters_of, log_length}
 use Rattle.tq_gate.specs.Log.{free_in, FitsIn, IsSameLog}
 use Rattle.tq_model.specs.declared.record.SpaceRecord.{SpaceRecord}
 use Rattle.tq_model.specs.declared.space.SpaceMove.{SpaceMove}
@@ -21,7 +21,7 @@ use Rattle.tq_spacefile.specs.declared.file.SpaceFile.{SpaceFile}
 use Rattle.tq_spacefile.specs.declared.fault.CommitError.{CommitError}
 use Rattle.tq_spacefile.specs.declared.fault.CommitError.TheVariants.{LogFull, Device, NoMemory}
 use Rattle.tq_spacefile.specs.Record.{IsRecorded, with_record}
-use Rattle.tq_spacefile.specs.File.{HasSpace, IsSameButSpace, IsFile, IsOldOrLogged, place_in, held_in, logged_in, room_for}
+use Rattle.tq_spacefile.specs.File.{HasSpace, IsSameButSpace, IsFile, IsOldOrLogged, place_in, clusters_in, held_in, logged_in, room_for}
 use Rattle.tq_spacefile.specs.Commit.{IsReady, AreReady, IsOldOrDone, IsCause, IsUnprepared, IsSameFile, HasFailed}
 use Rattle.tq_spacefile.proofs.Files.{file_same}
 use Rattle.tq_spacefile.proofs.Formats.{same_space_steps}
@@ -56,17 +56,21 @@ module _ (f : SpaceFile) (plan : Plan) (is : Said (held_in f) plan) where
 
   -- a call that leaves the space before the record, or with it
   abbrev left : ℕ → IndexedSpace → ℕ → List ℕ → Type 0
-  left epoch s size image = HasSpace (place_in f) epoch (held_in f) (logged_in f) image ⊎ HasSpace (place_in f) epoch s (logged_in f + (5 + size)) image
+  left epoch s size image = HasSpace (place_in f) (clusters_in f) epoch (held_in f) (logged_in f) image ⊎ HasSpace (place_in f) (clusters_in f) epoch s (logged_in f + (5 + size)) image
 
-  pub leaves_done : (epoch : ℕ) (old new : View) → Within (place_in f).dev IsSameButSpace (IsOldOrLogged (place_in f) epoch (held_in f) (logged_in f) is.r) old new
-      → Within (place_in f).dev IsSameButSpace (IsOldOrDone f epoch plan) old new
+  abbrev Beside : List ℕ → List ℕ → Type 0
+  Beside old new = IsSameButSpace (clusters_in f) old new
+
+  pub leaves_done : (epoch : ℕ) (old new : View)
+      → Within (place_in f).dev Beside (IsOldOrLogged (place_in f) (clusters_in f) epoch (held_in f) (logged_in f) is.r) old new
+      → Within (place_in f).dev Beside (IsOldOrDone f epoch plan) old new
   leaves_done epoch old new within =
-      subst (λ (n : ℕ). Within (place_in f).dev IsSameButSpace (left epoch (plan_applied plan (held_in f)) n) old new) (sym is.size)
-      (subst (λ (s : IndexedSpace). Within (place_in f).dev IsSameButSpace (left epoch s (length (spelt is.r))) old new) said_applied within)
+      subst (λ (n : ℕ). Within (place_in f).dev Beside (left epoch (plan_applied plan (held_in f)) n) old new) (sym is.size)
+      (subst (λ (s : IndexedSpace). Within (place_in f).dev Beside (left epoch s (length (spelt is.r))) old new) said_applied within)
 
   -- before the first call
-  pub not_begun : (epoch : ℕ) (v : View) → AreReady f epoch plan v → Within (place_in f).dev IsSameButSpace (IsOldOrDone f epoch plan) v v
-  not_begun epoch v at = starts (place_in f).dev IsSameButSpace same_space_steps (IsOldOrDone f epoch plan) v (λ image may. inl (at image may).0.has)
+  pub not_begun : (epoch : ℕ) (v : View) → AreReady f epoch plan v → Within (place_in f).dev Beside (IsOldOrDone f epoch plan) v v
+  not_begun epoch v at = starts (place_in f).dev Beside (same_space_steps (clusters_in f)) (IsOldOrDone f epoch plan) v (λ image may. inl (at image may).0.has)
 
   own_length : log_length f.log.layout ≡ log_bytes f.place.pages
   own_length = ap (λ (l : Layout). log_length l) f.layout
@@ -76,7 +80,8 @@ module _ (f : SpaceFile) (plan : Plan) (is : Said (held_in f) plan) where
   has_room size fits same = omega (arith, own_length, fits, same)
 
   -- a payload that was not prepared
-  unprepared : (untouched : Type 0) → untouched → (faults : ℕ) (e : CommitError) → IsUnprepared f.log (length (spelt is.r)) e → IsCause f plan untouched faults faults e
+  unprepared : (untouched : Type 0) → untouched → (faults : ℕ) (e : CommitError) → IsUnprepared f.log (length (spelt is.r)) e
+      → IsCause f plan untouched faults faults e
   unprepared untouched still faults (LogFull room) lacks =
       let past : log_bytes f.place.pages < logged_in f + (size_of plan + 6) = omega (arith, own_length, is.size, lacks.past) in
       let free : free_in f.log ≡ log_bytes f.place.pages - logged_in f = omega (arith, own_length) in
@@ -85,13 +90,15 @@ module _ (f : SpaceFile) (plan : Plan) (is : Said (held_in f) plan) where
   unprepared untouched still faults Device never = absurd never
   unprepared untouched still faults NoMemory none = still
 
-  pub not_prepared : (g : SpaceFile) (untouched : Type 0) → untouched → (v : View) (e : CommitError) → IsSameFile f g → IsUnprepared f.log (length (spelt is.r)) e → HasFailed f g plan untouched v v e
+  pub not_prepared : (g : SpaceFile) (untouched : Type 0) → untouched → (v : View) (e : CommitError) → IsSameFile f g
+      → IsUnprepared f.log (length (spelt is.r)) e → HasFailed f g plan untouched v v e
   not_prepared g untouched still v e same why = record { cause = unprepared untouched still v.faults e why; same = same; rest = rest_start (place_in f).dev v }
 
 -- the same log and space in memory
 pub same_file : (f g : SpaceFile) → place_in g ≡ place_in f → held_in g ≡ held_in f → IsSameLog f.log g.log → IsSameFile f g
 same_file f g place held log = record {
   place = place;
+  clusters = ap (λ (l : Layout). clusters_of l) log.layout;
   space = held;
   logged = λ i. log_bytes (place i).pages - (log_length (log.layout i) - log.end i);
   kept = λ epoch image is. file_same f g epoch image place held log is;

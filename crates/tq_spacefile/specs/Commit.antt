@@ -11,7 +11,7 @@ use Rattle.tq_space.specs.Loggable.{size_of, MayFollow}
 use Rattle.tq_spacefile.specs.declared.file.SpaceFile.{SpaceFile}
 use Rattle.tq_spacefile.specs.declared.fault.CommitError.{CommitError}
 use Rattle.tq_spacefile.specs.declared.fault.CommitError.TheVariants.{LogFull, Device, NoMemory}
-use Rattle.tq_spacefile.specs.File.{place_in, held_in, logged_in, HasSpace, IsSameButSpace, IsFile, AreFile, room_for}
+use Rattle.tq_spacefile.specs.File.{place_in, clusters_in, held_in, logged_in, HasSpace, IsSameButSpace, IsFile, AreFile, room_for}
 use Rattle.tq_spacefile.specs.Record.{LacksRoom}
 
 -- an image has the file, and the plan may come next in its log
@@ -29,22 +29,24 @@ logged_after f plan = logged_in f + (5 + size_of plan)
 -- The plan is done, in memory and in each image; its payload and a further gate had room. What is read is the same outside the space.
 pub record IsDone (tells : Told) (f f' : SpaceFile) (plan : Plan) (old new : View) : Type 0 where
   pub place : place_in f' ≡ place_in f
+  pub clusters : clusters_in f' ≡ clusters_in f
   pub space : held_in f' ≡ plan_applied plan (held_in f)
   pub logged : logged_in f' ≡ logged_after f plan
   pub fits : logged_in f + (size_of plan + 6) ≤ log_bytes (place_in f).pages
   pub images : (epoch : ℕ) → AreReady f epoch plan old → AreFile f' epoch new
   pub read : tells.reads → (epoch : ℕ) → IsReady f epoch plan (old.reads (place_in f).dev) → IsFile f' epoch (new.reads (place_in f).dev)
-  pub outside : tells.reads → IsSameButSpace (old.reads (place_in f).dev) (new.reads (place_in f).dev)
+  pub outside : tells.reads → IsSameButSpace (clusters_in f) (old.reads (place_in f).dev) (new.reads (place_in f).dev)
   pub rest : KeepsRest (place_in f).dev old new
   pub count : new.faults ≡ old.faults
 
 -- an image has the space before the plan, or after it
 abbrev pub IsOldOrDone : SpaceFile → ℕ → Plan → List ℕ → Type 0
-IsOldOrDone f epoch plan image = HasSpace (place_in f) epoch (held_in f) (logged_in f) image ⊎ HasSpace (place_in f) epoch (plan_applied plan (held_in f)) (logged_after f plan) image
+IsOldOrDone f epoch plan image = HasSpace (place_in f) (clusters_in f) epoch (held_in f) (logged_in f) image ⊎ HasSpace (place_in f) (clusters_in f) epoch (plan_applied plan (held_in f)) (logged_after f plan) image
 
 -- the same space and log in memory
 pub record IsSameFile (f f' : SpaceFile) : Type 0 where
   pub place : place_in f' ≡ place_in f
+  pub clusters : clusters_in f' ≡ clusters_in f
   pub space : held_in f' ≡ held_in f
   pub logged : logged_in f' ≡ logged_in f
   pub kept : (epoch : ℕ) (image : List ℕ) → IsFile f epoch image → IsFile f' epoch image

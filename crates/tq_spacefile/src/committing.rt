@@ -1,14 +1,14 @@
-ghost use Rattle.std.specs.Prelude.{◌≡◌, ◌≤◌, ℕ, length, IfOk, IfErr, OnOk};
+ghost use Rattle.std.specs.Prelude.{true, ◌≡◌, ◌≤◌, ℕ, length, IfOk, IfErr, OnOk};
 ghost use Rattle.tq_host.specs.Within.{Within};
 ghost use Rattle.tq_gate.specs.Frame.{IsFrame, payload_in};
 ghost use Rattle.tq_gate.specs.Log.{FitsIn};
 ghost use Rattle.tq_model.specs.declared.record.SpaceRecord.{SpaceRecord};
 ghost use Rattle.tq_model.specs.SpaceForm.{spelt};
 ghost use Rattle.tq_space.specs.Loggable.{IsLoggable};
-ghost use Rattle.tq_spacefile.specs.Place.{space_end};
+ghost use Rattle.tq_extent.specs.Bytes.{reaches};
 ghost use Rattle.tq_spacefile.specs.Payload.{IsPayloadOf};
 ghost use Rattle.tq_spacefile.specs.Record.{IsRecorded};
-ghost use Rattle.tq_spacefile.specs.File.{place_in, held_in, IsSameButSpace};
+ghost use Rattle.tq_spacefile.specs.File.{place_in, clusters_in, held_in, IsSameButSpace};
 ghost use Rattle.tq_spacefile.specs.Commit.{AreReady, IsDone, IsOldOrDone, HasFailed, IsUnprepared};
 
 use crate::recording::frame_plan;
@@ -68,12 +68,12 @@ impl SpaceFile {
         plan: Plan,
     ) -> Result<(), CommitError>
         requires loggable { IsLoggable (held_in self.old) plan }
-        requires reach { H.tells.reads → space_end (place_in self.old).pages ≤ length ((H.view host.old).reads (place_in self.old).dev) }
+        requires reach { H.tells.reads → reaches (clusters_in self.old) ((H.view host.old).reads (place_in self.old).dev) ≡ true }
         ensures done { OnOk result (IsDone H.tells self.old self.new plan (H.view host.old) (H.view host.new)) }
 
         // In each picture the space is the one before the plan, or the one after it.
         ensures stop { (epoch : ℕ) → AreReady self.old epoch plan (H.view host.old)
-            → Within (place_in self.old).dev IsSameButSpace (IsOldOrDone self.old epoch plan) (H.view host.old) (H.view host.new) }
+            → Within (place_in self.old).dev (IsSameButSpace (clusters_in self.old)) (IsOldOrDone self.old epoch plan) (H.view host.old) (H.view host.new) }
         ensures failed { IfErr result (HasFailed self.old self.new plan (host.new ≡ host.old) (H.view host.old) (H.view host.new)) }
     {
         let mut frame = prepare(alloc, &mut self.space, &self.log, &plan)?;

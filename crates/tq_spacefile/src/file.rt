@@ -15,6 +15,6 @@ pub struct SpaceFile {
     pub(crate) log: GateLog,
     ghost own: { IsOwn space.held },
     ghost plain: { KeepsAllAtCrash space.held },
-    ghost placed: { IsPlace place },
-    ghost layout: { layout_of log ≡ log_layout place },
+    ghost placed: { IsPlace place (layout_of log).map },
+    ghost layout: { layout_of log ≡ log_layout place (layout_of log).map },
 }

@@ -1,10 +1,9 @@
-ghost use Rattle.std.specs.Prelude.{◌≡◌};
+ghost use Rattle.std.specs.Prelude.{◌≡◌, ◌≤◌};
+ghost use Rattle.tq_extent.specs.Bytes.{byte_count};
 ghost use Rattle.tq_spacefile.specs.Place.{log_layout};
 
+use tq_extent::PageMap;
 use tq_gate::{Areas, Layout};
-
-/// The byte at which the first space of a device begins: the first behind the device's header.
-pub(crate) const SPACE_START: u64 = 131_072;
 
 /// Where a space lies, and what its messages are named by.
 #[derive(Clone, Copy, Debug, PartialEq, Eq)]
@@ -19,13 +18,18 @@ pub struct SpacePlace {
 }
 
 impl SpacePlace {
-    /// Where the log of the space lies: behind its first two pages.
-    pub(crate) fn log_layout(&self) -> Layout
-        ensures { result ≡ log_layout self.now }
+    /// Where the log of the space lies, which has the clusters of this map: behind its first two
+    /// pages.
+    pub(crate) fn log_layout(&self, map: PageMap) -> Layout
+        ensures layout { result ≡ log_layout self.now map }
+        ensures size { byte_count map ≤ 268435456 }
     {
+        // No owner has more pages than the largest device.
+        let owned = map.pages();
+        prove!(owned <= 262_144);
         Layout {
             dev: self.dev,
-            start: SPACE_START,
+            map,
             areas: Areas::One,
             first: 1,
             base_pages: 1,

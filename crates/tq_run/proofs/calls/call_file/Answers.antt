@@ -1,7 +1,7 @@
 use Rattle.std.proofs.Common.{ℕ, ◌∙◌, subst, refl}
 use Rattle.tq_host.specs.Within.{Within, KeepsRest}
 use Rattle.tq_spacefile.specs.declared.place.SpacePlace.{SpacePlace}
-use Rattle.tq_spacefile.specs.File.{held_in, place_in, IsSameButSpace}
+use Rattle.tq_spacefile.specs.File.{clusters_in, held_in, place_in, IsSameButSpace}
 use Rattle.tq_spacefile.specs.Commit.{AreReady}
 use Rattle.tq_run.specs.declared.planning.Planned.{Planned}
 use Rattle.tq_run.specs.declared.planning.Planned.TheVariants.{Granted}
@@ -21,7 +21,7 @@ ready : (g : Over) (c : After-commit g) → AreReady c.args.file.now c.args.next
 ready g c = λ image may. let b = c.requires.behind image may in (b.file, (planned g c).2.durable.follows b.some b.newer)
 
 within : (g : Over) (c : After-commit g)
-    → Within 0 IsSameButSpace (IsSameOrChanged c.args.file.now c.args.next (logged_outcome_in c.args.file.now (outcome_in c.args.file.now c.args.call))) (g.H.Host.view c.args.host.now) (g.H.Host.view c.commit.new.host)
+    → Within 0 (IsSameButSpace (clusters_in c.args.file.now)) (IsSameOrChanged c.args.file.now c.args.next (logged_outcome_in c.args.file.now (outcome_in c.args.file.now c.args.call))) (g.H.Host.view c.args.host.now) (g.H.Host.view c.commit.new.host)
 within g c =
     let p = planned g c in
     stops_so c.args.file.now c.args.next (outcome_in c.args.file.now c.args.call) p.0 c.in-Granted.plan p.2 _ _ c.requires.dev (c.commit.ensures.stop c.args.next.epoch (ready g c))

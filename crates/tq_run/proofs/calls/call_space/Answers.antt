@@ -39,7 +39,7 @@ returns-clause-served g c =
     let at = goal.at.returns-clause-served g c in
     let told : (d : ℕ) (image : List ℕ) → (g.H.Host.view c.call_file.new.host).may_leave d image → g.H.Host.tells.stops = (g.met.H.Host.lawful c.call_file.new.host).stops_told in
     after_call m c.args.call c.in-Some.file c.in-Some.is (named g at.In-Some) c.next_arrival-next.result c.next_arrival-next.ensures c.call_file.new.file c.in_ok-reply.reply
-    c.in_ok-reply.ensures.called c.call_file.ensures.place c.in_ok-reply.ensures.most _ refl refl refl
+    c.in_ok-reply.ensures.called c.call_file.ensures.place c.call_file.ensures.clusters c.in_ok-reply.ensures.most _ refl refl refl
     _ _ c.requires.on (λ image may. c.call_file.ensures.stop (told 0 image may)) c.in_ok-reply.ensures.on
 
 pub returns-then-not-is_named-clause-stop : goal.returns-then-not-is_named-clause-stop

@@ -11,6 +11,7 @@ use Rattle.tq_run.proofs.LineByLineLemmas.{over_front, then_over, run_started, i
 use Rattle.tq_run.proofs.StatusLemmas.{line_0_ended, line_0_begun}
 use Rattle.tq_run.proofs.TakeLemmas.{taken_behind}
 use Rattle.tq_run.proofs.AttachLemmas.{attached_on}
+use Rattle.tq_run.proofs.FrameLemmas.{others_on}
 use Rattle.tq_run.proofs.running.attend.Goals as goal
 
 not_ok : {T E : Type 0} (r : Result T E) (x : T) (end : E) → r ≡ Ok x → r ≡ Err end → ⊥
@@ -76,6 +77,9 @@ returns-in_err-answer_script-clause-counts g c =
 pub returns-in_err-answer_script-clause-attached : goal.returns-in_err-answer_script-clause-attached
 returns-in_err-answer_script-clause-attached g c = λ t.
     attached_on (c.args.path.now ∷ []) (g.H.Host.view c.args.host.now) (g.H.Host.view c.begin.new.host) (g.H.Host.view c.answer_script.new.host) (c.begin.ensures.told t) (c.begin.ensures.attached t) (c.in_ok-state.ensures.named t) (c.answer_script.ensures.attached t)
+
+pub returns-in_err-answer_script-clause-others : goal.returns-in_err-answer_script-clause-others
+returns-in_err-answer_script-clause-others g c = others_on _ _ _ c.begin.ensures.others c.answer_script.ensures.others
 
 pub returns-clause-attached : goal.returns-clause-attached
 returns-clause-attached g c = λ t.

@@ -1,9 +1,11 @@
-use Rattle.std.proofs.Common.{Some, ◌∙◌, sym, ap, subst, arith}
+use Rattle.std.proofs.Common.{◌≡◌, List, ℕ, true, Some, ◌∙◌, sym, ap, subst, arith}
+use Rattle.tq_extent.specs.Bytes.{reaches}
+use Rattle.tq_spacefile.specs.File.{IsFormatted, IsFile}
 use Rattle.tq_model.specs.declared.space.Shape.{Shape}
 use Rattle.tq_run.specs.Manager.{IsContentOn}
 use Rattle.tq_run.specs.Spaces.{IsShape}
 use Rattle.tq_run.proofs.FoundLemmas.{content_stands}
-use Rattle.tq_run.proofs.DeviceStopLemmas.{reads_on, settled_all}
+use Rattle.tq_run.proofs.DeviceStopLemmas.{stays, reads_on, settled_all}
 use Rattle.tq_run.proofs.SpaceCreationLemmas.{is_shape, making, space_differs, new_answer, site_granted, new_site_of, new_file_on}
 use Rattle.tq_run.proofs.spaces.make_space.Goals as goal
 
@@ -14,6 +16,9 @@ pub lay_out-requires-clause-holds : goal.lay_out-requires-clause-holds
 lay_out-requires-clause-holds g c = λ t.
     let m = c.args.manager.now in
     content_stands m c.args.content.now _ c.requires.admitted.content (reads_on m _ (g.met.H.Host.lawful c.args.host.now) t c.requires.on)
+
+pub returns-in_err-map-clause-stop : goal.returns-in_err-map-clause-stop
+returns-in_err-map-clause-stop g c = stays _ _ _ c.requires.on
 
 pub returns-in_err-entered-clause-stop : goal.returns-in_err-entered-clause-stop
 returns-in_err-entered-clause-stop g c = making c.args.creation.now c.args.manager.now c.args.content.now c.requires.admitted c.shape_of-shape.result _ _ c.shape_of-shape.ensures c.requires.on c.lay_out.ensures.rest c.lay_out.ensures.stop
@@ -45,5 +50,6 @@ returns-clause-served g c =
           ∙ site_granted creation m d c.requires.admitted shape c.shape_of-shape.ensures;
       next = omega arith;
       images = settled_all (IsContentOn (Some e) (Some c.new.result) m.next) _ (g.met.H.Host.lawful c.lay_out.new.host) c.in_ok-entered.ensures.settled
-          (λ t. new_file_on d e creation.name shape c.new.result m.next c.in_ok-entered.ensures.entered c.new.ensures.held c.new.ensures.place c.new.ensures.on _ (c.in_ok-entered.ensures.done t));
+          (λ t. new_file_on d e creation.name shape c.new.result m.next c.in_ok-entered.ensures.entered c.new.ensures.held c.new.ensures.place (c.new.ensures.clusters ∙ c.in_ok-map.ensures.clusters)
+          (subst (λ (l : List ℕ). (epoch : ℕ) (image : List ℕ) → IsFormatted shape l image → reaches l image ≡ true → IsFile c.new.result epoch image) c.in_ok-map.ensures.clusters c.new.ensures.on) _ (c.in_ok-entered.ensures.done t));
     }

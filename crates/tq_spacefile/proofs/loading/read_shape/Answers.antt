@@ -1,8 +1,7 @@
 use Rattle.std.proofs.Common.{◌≡◌, length, sym, ap, ◌∙◌, arith}
 use Rattle.tq_spacefile.specs.Page.{shape_in}
-use Rattle.tq_spacefile.proofs.LogicalBytes.{page-stands}
 use Rattle.tq_spacefile.specs.declared.fault.FileError.TheVariants.{Damaged, Device}
-use Rattle.tq_spacefile.proofs.Loads.{error_is}
+use Rattle.tq_spacefile.proofs.Loads.{error_is, page_stands}
 use Rattle.tq_spacefile.proofs.loading.read_shape.Goals as goal
 
 no_device : Damaged ≡ Device → ⊥
@@ -20,7 +19,7 @@ returns-in-Some-clause-shape g c = λ told.
     let image = (g.H.Host.view c.args.host.now).reads c.args.place.now.dev in
     let long : length page ≡ 1024 = omega arith in
     let pages = c.args.place.now.pages in
-    let same = page-stands pages page image c.requires.place.least (c.in_ok-read_at.ensures.bytes told) long (omega (arith, c.requires.reach told, c.requires.place.least)) in
+    let same = page_stands c.args.place.now c.args.map.now page image c.requires.place (c.requires.reach told) long (c.in_ok-read_at.ensures.bytes told) in
     sym (ap (shape_in pages) same) ∙ sym c.decode_page.ensures.shape ∙ c.in-Some.is
 
 pub returns-in-None-clause-damaged : goal.returns-in-None-clause-damaged
@@ -29,5 +28,5 @@ returns-in-None-clause-damaged g c = λ is told.
     let image = (g.H.Host.view c.args.host.now).reads c.args.place.now.dev in
     let long : length page ≡ 1024 = omega arith in
     let pages = c.args.place.now.pages in
-    let same = page-stands pages page image c.requires.place.least (c.in_ok-read_at.ensures.bytes told) long (omega (arith, c.requires.reach told, c.requires.place.least)) in
+    let same = page_stands c.args.place.now c.args.map.now page image c.requires.place (c.requires.reach told) long (c.in_ok-read_at.ensures.bytes told) in
     sym (ap (shape_in pages) same) ∙ sym c.decode_page.ensures.shape ∙ c.in-None.is

@@ -85,7 +85,7 @@ pub returns-clause-shares_none : goal.returns-clause-shares_none
 returns-clause-shares_none c = λ others none.
     let extents = c.args.extents.now in
     let claimed = all_claimed extents c.loop-at.at c.args.self.now c.loop-at-test.false c.loop-at.invariant.claimed in
-    free_shares_none extents others c.args.self.now (claimed_free (clusters_of extents) c.args.self.now claimed) none
+    free_shares_none (clusters_of extents) others c.args.self.now (claimed_free (clusters_of extents) c.args.self.now claimed) none
 
 pub returns-clause-mappable : goal.returns-clause-mappable
 returns-clause-mappable c = subst AreMappable (take_all c.loop-at.at c.args.extents.now c.loop-at-test.false) c.loop-at.invariant.mappable

@@ -45,7 +45,7 @@ pub returns-clause-shares_none : goal.returns-clause-shares_none
 returns-clause-shares_none c = λ others none.
     let extents = c.in_ok-extents.extents in
     let old = c.args.self.now in
-    free_shares_none extents others old (lowest_all_free extents c.args.n old c.in_ok-extents.ensures) none
+    free_shares_none (clusters_of extents) others old (lowest_all_free extents c.args.n old c.in_ok-extents.ensures) none
 
 pub returns-clause-mappable : goal.returns-clause-mappable
 returns-clause-mappable c =

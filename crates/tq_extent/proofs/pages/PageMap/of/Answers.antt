@@ -24,7 +24,7 @@ all_clusters extents i clusters le is = is ∙ ap clusters_of (take_all i extent
 
 pub invariant_of-result : goal.invariant_of-result
 invariant_of-result c =
-    let pages : HasPages (clusters_of c.args.extents.now) = record { few = c.requires.few; distinct = c.requires.distinct } in
+    let pages : HasPages (clusters_of c.args.extents.now) = record { within = c.requires.within; few = c.requires.few; distinct = c.requires.distinct } in
     subst HasPages (sym (all_clusters c.args.extents.now c.loop-extent.extent-index c.loop-extent.clusters.items c.loop-extent-test.false c.loop-extent.invariant)) pages
 
 pub returns : goal.returns

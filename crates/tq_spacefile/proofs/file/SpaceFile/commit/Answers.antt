@@ -1,18 +1,19 @@
-use Rattle.std.proofs.Common.{◌≡◌, ◌+◌, ◌-◌, List, ℕ, Result, Ok, Err, OnErr, length, refl, sym, ap, subst, ◌∙◌}
+use Rattle.std.proofs.Common.{◌≡◌, ◌+◌, ◌-◌, List, ℕ, length, refl, sym, ap, subst, ◌∙◌}
 use Rattle.tq_host.specs.Within.{KeepsRest}
-use Rattle.tq_host.specs.declared.host.Device.{Device}
+use Rattle.tq_gate.specs.declared.layout.Layout.{Layout}
+use Rattle.tq_gate.specs.Layout.{clusters_of}
 use Rattle.tq_gate.specs.Frame.{payload_in}
-use Rattle.tq_gate.specs.Log.{free_in, IsSameLog}
+use Rattle.tq_gate.specs.Log.{free_in}
 use Rattle.tq_model.specs.declared.record.SpaceRecord.{SpaceRecord}
 use Rattle.tq_model.specs.Plain.{IsOwn, KeepsAllAtCrash}
 use Rattle.tq_model.specs.SpaceForm.{log_bytes, spelt}
 use Rattle.tq_model.proofs.RecordMoves.{moved_plain}
 use Rattle.tq_space.specs.Applied.{plan_applied}
 use Rattle.tq_spacefile.specs.declared.fault.CommitError.TheVariants as commit_error
-use Rattle.tq_spacefile.specs.Commit.{HasFailed}
 use Rattle.tq_spacefile.specs.Payload.{IsPayloadOf}
+use Rattle.tq_spacefile.specs.Place.{IsPlace, log_layout}
 use Rattle.tq_spacefile.specs.Record.{with_record}
-use Rattle.tq_spacefile.specs.File.{held_in, logged_in, IsSameButSpace}
+use Rattle.tq_spacefile.specs.File.{clusters_in, held_in, logged_in, IsSameButSpace}
 use Rattle.tq_spacefile.proofs.Commits.{moved_own, recorded_applied, own_dev, space_frame, have_log, stops, logged_more, logged_read, logged_files}
 use Rattle.tq_spacefile.proofs.PlanRecordLemmas.{said, ready_for, leaves_done, not_begun, has_room, not_prepared, same_file, at_error}
 use Rattle.tq_spacefile.proofs.file.SpaceFile.commit.Goals as goal
@@ -72,8 +73,8 @@ invariant_of-self-2 g c =
     record {
       own = subst IsOwn (sym held) (moved_own (held_in f) is.r f.own);
       plain = subst KeepsAllAtCrash (sym held) (moved_plain (held_in f) is.r f.plain);
-      placed = f.placed;
-      layout = c.append.ensures.layout ∙ f.layout;
+      placed = subst (λ (l : Layout). IsPlace f.place (clusters_of l)) (sym c.append.ensures.layout) f.placed;
+      layout = c.append.ensures.layout ∙ f.layout ∙ ap (λ (l : Layout). log_layout f.place (clusters_of l)) (sym c.append.ensures.layout);
     }
 
 pub returns-clause-done : goal.returns-clause-done
@@ -93,6 +94,7 @@ returns-clause-done g c =
     logged_more f c.append.new.self (5 + length payload) c.in_ok-append.ensures.free ∙ ap (λ (l : List ℕ). logged_in f + (5 + length l)) spells.spells in
     record {
       place = refl;
+      clusters = ap (λ (l : Layout). clusters_of l) c.append.ensures.layout;
       space = applied;
       logged = logged ∙ ap (λ (n : ℕ). logged_in f + (5 + n)) (sym is.size);
       fits = has_room f plan is _ c.in_ok-frame.ensures.fits (is.size ∙ sym (ap length spelt_there.spells));
@@ -102,7 +104,7 @@ returns-clause-done g c =
           (λ image may. ready_for f plan is epoch image (ready image may));
       read = λ told epoch ready.
           logged_read f _ refl c.append.ensures.layout r payload spells held logged epoch before after (is.follows epoch ready.1) (c.in_ok-append.ensures.outside told) (c.in_ok-append.ensures.added told) ready.0;
-      outside = λ told. subst (λ n. IsSameButSpace (before.reads n) (after.reads n)) (own_dev f) (space_frame f _ _ (c.in_ok-append.ensures.outside told));
+      outside = λ told. subst (λ n. IsSameButSpace (clusters_in f) (before.reads n) (after.reads n)) (own_dev f) (space_frame f _ _ (c.in_ok-append.ensures.outside told));
       rest = subst (λ n. KeepsRest n before after) (own_dev f) c.append.ensures.rest;
       count = c.in_ok-append.ensures.cause.ok;
     }

@@ -3,8 +3,8 @@ use Rattle.tq_host.proofs.Causes.{cause_of_on, cause_of_same, cause_of_none}
 use Rattle.tq_gate.specs.declared.layout.Layout.{Layout}
 use Rattle.tq_gate.specs.Loaded.{content_of}
 use Rattle.tq_gate.specs.Log.{IsLog}
-use Rattle.tq_gate.specs.Reading.{content}
-use Rattle.tq_gate.proofs.ReadOnlyLemmas.{quiet_on}
+use Rattle.tq_gate.specs.Reading.{content_on}
+use Rattle.tq_extent.proofs.ReadOnlyLemmas.{quiet_on}
 use Rattle.tq_spacefile.specs.declared.fault.FileError.{FileError}
 use Rattle.tq_spacefile.specs.declared.fault.FileError.TheVariants.{Damaged, Device}
 use Rattle.tq_spacefile.specs.declared.file.SpaceFile.{SpaceFile}
@@ -17,16 +17,16 @@ pub returns-in_err-shape-clause-damaged : goal.returns-in_err-shape-clause-damag
 returns-in_err-shape-clause-damaged g c = λ is told.
     let place = c.args.place.now in
     let image = (g.H.Host.view c.args.host.now).reads place.dev in
-    no_page place c.args.epoch image (c.read_shape.ensures.damaged ((same_error c.read_shape.result c.from_residual.result c.in_err-shape.field-0.0 Damaged c.in_err-shape.was c.from_residual.ensures.1).1 is) told)
+    no_page place c.args.map c.args.epoch image (c.read_shape.ensures.damaged ((same_error c.read_shape.result c.from_residual.result c.in_err-shape.field-0.0 Damaged c.in_err-shape.was c.from_residual.ensures.1).1 is) told)
 
 pub returns-in_err-loaded-clause-damaged : goal.returns-in_err-loaded-clause-damaged
 returns-in_err-loaded-clause-damaged g c = λ is told.
     let place = c.args.place.now in
     let image = (g.H.Host.view c.args.host.now).reads place.dev in
     let asked = c.requires in
-    let at : IsPlace place = record { dev = asked.dev; least = asked.least; most = asked.most } in
+    let at : IsPlace place c.args.map = record { dev = asked.dev; least = asked.least; most = asked.most; enough = asked.enough } in
     let none = c.load_log.ensures.damaged ((same_error c.load_log.result c.from_residual-in_err-loaded.result c.in_err-loaded.field-0.0 Damaged c.in_err-loaded.was c.from_residual-in_err-loaded.ensures.1).1 is) told in
-    no_log place c.args.epoch image at (asked.reach told) (subst (λ (i : List ℕ). content (log_layout place) i ≡ None) (c.read_shape.ensures.quiet.still.reads place.dev) none)
+    no_log place c.args.map c.args.epoch image at (asked.reach told) (subst (λ (i : List ℕ). content_on (log_layout place c.args.map) i ≡ None) (c.read_shape.ensures.quiet.still.reads place.dev) none)
 
 pub returns-in_err-loaded-clause-quiet : goal.returns-in_err-loaded-clause-quiet
 returns-in_err-loaded-clause-quiet g c =
@@ -46,12 +46,12 @@ returns-in_err-file-clause-damaged g c = λ is told.
     let place = c.args.place.now in
     let image = (g.H.Host.view c.args.host.now).reads place.dev in
     let asked = c.requires in
-    let at : IsPlace place = record { dev = asked.dev; least = asked.least; most = asked.most } in
+    let at : IsPlace place c.args.map = record { dev = asked.dev; least = asked.least; most = asked.most; enough = asked.enough } in
     let log : IsLog c.in_ok-loaded.loaded.log (content_of c.in_ok-loaded.loaded) image = subst (λ (i : List ℕ). IsLog c.in_ok-loaded.loaded.log (content_of c.in_ok-loaded.loaded) i) (c.read_shape.ensures.quiet.still.reads place.dev) (c.in_ok-loaded.ensures.loaded told) in
     let found = loaded_space c.args.epoch c.in_ok-shape.shape place (content_of c.in_ok-loaded.loaded) in
     let none : found ≡ None = subst (IsUnread found) (sym (error_is c.from_residual-in_err-file.result c.in_err-file.field-0.0 Damaged c.from_residual-in_err-file.ensures.1 is)) c.in_err-file.ensures.refused in
-    let holds : content (log_layout place) image ≡ Some (content_of c.in_ok-loaded.loaded) = sym (ap (λ (l : Layout). content l image) c.in_ok-loaded.ensures.layout) ∙ log.reads in
-    no_replay place c.args.epoch image at (asked.reach told) (content_of c.in_ok-loaded.loaded) holds c.in_ok-shape.shape (c.in_ok-shape.ensures.shape told) none
+    let holds : content_on (log_layout place c.args.map) image ≡ Some (content_of c.in_ok-loaded.loaded) = sym (ap (λ (l : Layout). content_on l image) c.in_ok-loaded.ensures.layout) ∙ log.is.reads in
+    no_replay place c.args.map c.args.epoch image at (asked.reach told) (content_of c.in_ok-loaded.loaded) holds c.in_ok-shape.shape (c.in_ok-shape.ensures.shape told) none
 
 pub returns-in_err-file-clause-quiet : goal.returns-in_err-file-clause-quiet
 returns-in_err-file-clause-quiet g c =
@@ -94,7 +94,7 @@ returns-clause-loaded g c = λ told.
     let place = c.args.place.now in
     let image = (g.H.Host.view c.args.host.now).reads place.dev in
     let log : IsLog c.in_ok-loaded.loaded.log (content_of c.in_ok-loaded.loaded) image = subst (λ (i : List ℕ). IsLog c.in_ok-loaded.loaded.log (content_of c.in_ok-loaded.loaded) i) (c.read_shape.ensures.quiet.still.reads place.dev) (c.in_ok-loaded.ensures.loaded told) in
-    loaded_at place c.in_ok-loaded.loaded.log c.in_ok-file.file c.in_ok-shape.shape c.args.epoch image (content_of c.in_ok-loaded.loaded) c.in_ok-file.ensures.place c.in_ok-file.ensures.log (c.requires.reach told) (c.in_ok-shape.ensures.shape told) log c.in_ok-file.ensures.held
+    loaded_at place c.args.map c.in_ok-loaded.loaded.log c.in_ok-file.file c.in_ok-shape.shape c.args.epoch image (content_of c.in_ok-loaded.loaded) c.in_ok-file.ensures.place c.in_ok-file.ensures.log c.in_ok-loaded.ensures.layout (c.in_ok-shape.ensures.shape told) log c.in_ok-file.ensures.held
 
 pub returns-clause-damaged : goal.returns-clause-damaged
 returns-clause-damaged g c = λ is told. cc

@@ -1,0 +1,15 @@
+pub mod BareTableLemmas
+pub mod CreationLemmas
+pub mod DeviceLemmas
+pub mod PictureLemmas
+pub mod SameByteLemmas
+pub mod EntryLemmas
+pub mod DecodedEntryLemmas
+pub mod ListLemmas
+pub mod SpellingLemmas
+pub mod TableLemmas
+pub mod TableReadLemmas
+pub mod TableTestLemmas
+pub mod SpaceLemmas
+pub mod NoTwoLemmas
+pub mod SpeltTableLemmas

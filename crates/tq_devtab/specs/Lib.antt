@@ -1,0 +1,5 @@
+pub mod Table
+pub mod Spelling
+pub mod Device
+pub mod Made
+pub mod TableParts
