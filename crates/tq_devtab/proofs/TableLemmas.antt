@@ -16,7 +16,8 @@ use Rattle.tq_model.specs.DeviceForm.{RawTable, raw_table, extents_start, table_
 use Rattle.tq_model.specs.Reading.{NamedSpace, named_in, is_extent, overlap, no_two, hold_all, table_tests, entries_tests, used_entries}
 use Rattle.tq_extent.specs.Clusters.{new_clusters, is_free, free_in, clusters_of, are_distinct, can_claim, with_mark}
 use Rattle.tq_extent.proofs.ExtentLemmas.{length-numbers_from, numbers_from-append, length-clusters_of, any-clusters_of}
-use Rattle.tq_extent.proofs.ClusterLemmas.{has, length-with_mark, get_or-with_mark, with_mark-append, with_mark-undone, can_claim-append, lowest-free, lowest-distinct}
+use Rattle.tq_extent.specs.Bytes.{has_cluster}
+use Rattle.tq_extent.proofs.ClusterLemmas.{length-with_mark, get_or-with_mark, with_mark-append, with_mark-undone, can_claim-append, lowest-free, lowest-distinct}
 use Rattle.tq_extent.proofs.CountLemmas.{length-free_in, free-most, length-new}
 use Rattle.tq_extent.proofs.ClaimLemmas.{lies_within, can_claim-new}
 use Rattle.tq_devtab.specs.Table.{extents_of, owned_by, raw_of, table_of, base_tests, IsBase, IsTable, with_entry, entry_of, changed_entry, without_entry, joined_extents, longer_space, with_longer, AreFree, IsNewSpace}
@@ -104,7 +105,7 @@ extents_fit clusters extents le most some free =
 -- ---- marks
 
 -- the same clusters in another order
-with_mark-alike : (mark : Bool) (xs ys : List ℕ) (owned : List Bool) → ((k : ℕ) → has xs k ≡ has ys k) → with_mark mark xs owned ≡ with_mark mark ys owned
+with_mark-alike : (mark : Bool) (xs ys : List ℕ) (owned : List Bool) → ((k : ℕ) → has_cluster xs k ≡ has_cluster ys k) → with_mark mark xs owned ≡ with_mark mark ys owned
 with_mark-alike mark xs ys owned same =
     let one = length-with_mark mark xs owned in
     let other = length-with_mark mark ys owned in
@@ -176,7 +177,7 @@ module _ (next clusters size : ℕ) (xs ys : List (Option NamedSpace)) (n : Name
       turned false false true = refl
       turned false false false = refl
 
-      same : (k : ℕ) → has (clusters_of (before ++ (n.extents ++ behind))) k ≡ has (clusters_of (before ++ behind) ++ clusters_of n.extents) k
+      same : (k : ℕ) → has_cluster (clusters_of (before ++ (n.extents ++ behind))) k ≡ has_cluster (clusters_of (before ++ behind) ++ clusters_of n.extents) k
       same k =
           any-clusters_of k (before ++ (n.extents ++ behind))
           ∙ list_any-append (covers k) before (n.extents ++ behind)
