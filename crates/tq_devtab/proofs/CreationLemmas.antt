@@ -180,7 +180,11 @@ module _ (place site clusters : ℕ) (h t j : List ℕ) (header : IsHeaderStart 
         let k = i - journal_a in
         let e : i ≡ journal_a + k = omega arith in
         made i (omega arith) ∙ ap (made_byte h t j) e ∙ made_high h t j k ∙ journal.later later k;
+    first = record { table = unsaid 512 (omega arith) (omega arith); journal = unsaid 513 (omega arith) (omega arith) };
   }
+    where
+      unsaid : (i : ℕ) → 20 ≤ i → i < table_a → get_or image i 0 ≡ 0
+      unsaid i from to = made i (omega arith) ∙ made_low h t j i to ∙ get_or_past h i 0 (omega (arith, header.size))
 
 -- its last byte makes it a device, and a stop leaves that or a blank one
 pub pulled_open : (place site clusters : ℕ) (b c : List ℕ) → IsLaidOut place site clusters b → IsPulled header_bytes b c

@@ -36,10 +36,10 @@ part_by place h image =
       entries = map named_in t.entries;
     }
 
-join : (xs ys : List Bool) → hold_all xs ≡ true → hold_all ys ≡ true → hold_all (xs ++ ys) ≡ true
+pub join : (xs ys : List Bool) → hold_all xs ≡ true → hold_all ys ≡ true → hold_all (xs ++ ys) ≡ true
 join xs ys first second = list_all-append (λ test. test) xs ys ∙ and_from (hold_all xs) (hold_all ys) first second
 
-split : (xs ys : List Bool) → hold_all (xs ++ ys) ≡ true → (hold_all xs ≡ true) × (hold_all ys ≡ true)
+pub split : (xs ys : List Bool) → hold_all (xs ++ ys) ≡ true → (hold_all xs ≡ true) × (hold_all ys ≡ true)
 split xs ys both = and_parts (hold_all xs) (hold_all ys) (sym (list_all-append (λ test. test) xs ys) ∙ both)
 
 -- the parts of a device without spaces pass their tests
@@ -86,6 +86,22 @@ bare_stands place h d image long header is part = record {
   part = ap (λ (h : RawHeader). part_by place h image) header ∙ part;
 }
 
+pub chosen_most : (s a b : ℕ) → a ≤ b → chosen s a b ≤ b
+chosen_most s a b le = elim (s % 2 == 0) as (λ even. (if even then a else b) ≤ b) [ true ↦ le | false ↦ omega arith ]
+
+-- a table without entries, in an image with the same bytes before this end
+module _ (end at : ℕ) (a b : List ℕ) (same : IsSameBelow end a b) (long_a : end ≤ length a) (long_b : end ≤ length b) (within : at + extents_start ≤ end) where
+  pub bare_next_kept : (raw_table at b).next ≡ (raw_table at a).next
+  bare_next_kept = number_kept end a b same long_a long_b (at + 4) 4 (omega (arith, within))
+
+  pub bare_bytes_kept : IsBareBytes at a → IsBareBytes at b
+  bare_bytes_kept is = record {
+    mark = ap (λ (m : List ℕ). bytes_eq m (codes "TQTB")) (run_kept end a b same long_a long_b at 4 (omega (arith, within))) ∙ is.mark;
+    next = ap is_next bare_next_kept ∙ is.next;
+    unused = unused_from table_entries (at + 32) (at + extents_start) b (λ k lt.
+        same (at + 32 + 160 * k) (omega (arith, within, lt)) ∙ unused_at table_entries (at + 32) (at + extents_start) a is.unused k lt);
+  }
+
 -- Where the device has no space, its bytes before the last one of the header, and that it is not blank, say it all.
 pub bare_kept : (place : ℕ) (d : DevicePart) (a b : List ℕ) → HasNoSpace d → HasPart place d a → header_bytes ≤ length b → IsSameBelow (header_bytes - 1) a b
     → HasPart place d b
@@ -97,17 +113,11 @@ bare_kept place d a b none has long same =
     let table = chosen_most (get_or a 512 0) table_a table_b (omega arith) in
     let journal = chosen_most (get_or a 513 0) journal_a journal_b (omega arith) in
     let is = tests_of place h a has.tests (ap (λ (d : DevicePart). present d.entries) has.part ∙ none) in
-    let mark = run_kept end a b same long_a long_b h.table 4 (omega (arith, table)) in
-    let next = number_kept end a b same long_a long_b (h.table + 4) 4 (omega (arith, table)) in
+    let next = bare_next_kept end h.table a b same long_a long_b (omega (arith, table)) in
     let same_journal = journal_kept end a b same long_a long_b h.journal (omega (arith, journal)) in
     let kept : IsBareDevice place h b = record {
       header = is.header;
-      table = record {
-        mark = ap (λ (m : List ℕ). bytes_eq m (codes "TQTB")) mark ∙ is.table.mark;
-        next = ap is_next next ∙ is.table.next;
-        unused = unused_from table_entries (h.table + 32) (h.table + extents_start) b (λ k lt.
-            same (h.table + 32 + 160 * k) (omega (arith, table, lt)) ∙ unused_at table_entries (h.table + 32) (h.table + extents_start) a is.table.unused k lt);
-      };
+      table = bare_bytes_kept end h.table a b same long_a long_b (omega (arith, table)) is.table;
       journal = ap (λ (j : RawJournal). hold_all (own_journal_tests place j)) same_journal ∙ is.journal;
     } in
     let entries = (bare_table place h b kept).entries ∙ sym (bare_table place h a is).entries in
@@ -119,6 +129,3 @@ bare_kept place d a b none has long same =
       journal = if place == 0 then journal_read (same_journal i) else None;
       entries = entries i;
     }) ∙ has.part)
-  where
-    chosen_most : (s a b : ℕ) → a ≤ b → chosen s a b ≤ b
-    chosen_most s a b le = elim (s % 2 == 0) as (λ even. (if even then a else b) ≤ b) [ true ↦ le | false ↦ omega arith ]

@@ -1,16 +1,14 @@
 -- Pictures of calls that change the length of a device.
-use Rattle.std.proofs.Common.{◌<◌, inl, inr, ℕ, ◌-◌, List, length, sym, subst, arith, Result, Ok, Err}
+use Rattle.std.proofs.Common.{◌<◌, inl, ℕ, ◌-◌, List, sym, subst, arith, Result, Ok, Err}
 use Rattle.std.specs.Prelude.{OnOk}
 use Rattle.tq_host.specs.View.{Told, View, IsLawful, IsSettled}
 use Rattle.tq_host.specs.Calls.{IsPulled}
 use Rattle.tq_host.specs.Within.{Within}
-use Rattle.tq_host.proofs.Bytes.{before_or_after}
 use Rattle.tq_host.proofs.Steps.{IsSteps}
 use Rattle.tq_host.proofs.Within.{wider, weaker, in_a_row}
 use Rattle.tq_model.specs.DeviceForm.{header_bytes}
 use Rattle.tq_model.specs.Reading.{DevicePart}
-use Rattle.tq_devtab.specs.Device.{IsBlank, IsBlankOr, HasPart, HasNoSpace, IsAny, IsAnyStep}
-use Rattle.tq_devtab.proofs.DeviceLemmas.{bare_kept}
+use Rattle.tq_devtab.specs.Device.{IsBlank, IsBlankOr, IsAny, IsAnyStep}
 
 pub any_steps : IsSteps IsAnyStep
 any_steps = record { none = λ c. tt; both = λ a b c first second. tt }
@@ -43,19 +41,6 @@ leads_on dev step P Q start mid now to so_far has call = in_a_row dev IsAnyStep 
 -- a device that stays below the length of its header
 pub pulled_below : (size : ℕ) (b c : List ℕ) → size < header_bytes → IsBlank b → IsPulled size b c → IsBlank c
 pulled_below size b c below blank pulled = omega (arith, blank, below, pulled.no_longer)
-
--- the same of a device without a space that is made too short, where it is not blank
-pub pulled_short : (place : ℕ) (d : DevicePart) (b c : List ℕ) → HasNoSpace d → HasPart place d b → IsPulled (header_bytes - 1) b c → IsBlankOr place d c
-pulled_short place d b c none has pulled = elim (before_or_after (length c) header_bytes) [
-  | inl short ↦ inl short
-  | inr long ↦ inr (bare_kept place d b c none has long (λ i lt. pulled.front i (omega (arith, lt, has.size))))
-]
-
--- a device without a space that is made too short
-pub too_short : (dev place : ℕ) (d : DevicePart) (start now : View) → HasNoSpace d → ((c : List ℕ) → start.may_leave dev c → HasPart place d c)
-    → Within dev (IsPulled (header_bytes - 1)) IsAny start now → Within dev IsAnyStep (IsBlankOr place d) start now
-too_short dev place d start now none has call =
-    leads dev (IsPulled (header_bytes - 1)) (HasPart place d) (IsBlankOr place d) start now (λ b c is pulled. pulled_short place d b c none is pulled) has call
 
 -- a device that is blank in each picture
 pub blank_pictures : (dev place : ℕ) (d : DevicePart) (start now : View) → Within dev IsAnyStep IsBlank start now

@@ -1,5 +1,5 @@
 -- What a change of a table keeps: a space more, a space less, a space with more pages.
-use Rattle.std.proofs.Common.{◌≡◌, ◌<◌, ◌≤◌, ℕ, zero, suc, ◌+◌, ◌-◌, ◌*◌, ◌&&◌, ◌||◌, Bool, true, false, cond, not, List, [], ◌∷◌, ◌++◌, length, get_or, set, take, map, Option, Some, None, refl, sym, ap, ◌∙◌, subst, arith, append_assoc}
+use Rattle.std.proofs.Common.{◌≡◌, ◌⊎◌, inl, inr, ◌<◌, ◌≤◌, ℕ, zero, suc, ◌+◌, ◌-◌, ◌*◌, ◌&&◌, ◌||◌, Bool, true, false, cond, not, List, [], ◌∷◌, ◌++◌, length, get_or, set, take, map, Option, Some, None, refl, sym, ap, ◌∙◌, subst, arith, append_assoc}
 use Rattle.std.specs.Prelude.{◌==◌, nat_le, nat_lt, is_some, if◌then◌else◌}
 use Rattle.std.specs.List.{list_all, list_any, flat_map}
 use Rattle.std.specs.Cmp.{nat_eq_equiv}
@@ -42,7 +42,7 @@ extent-lies clusters size e is =
     and_from (nat_le header_clusters e.first) (nat_le (e.first + e.count) clusters) (and_parts (has_clusters e) (nat_le header_clusters e.first) parts.0).1
     (and_parts (nat_le (e.first + e.count) clusters) (reaches size e) parts.1).0
 
-extent-reached : (clusters size : ℕ) (e : Extent) → is_extent clusters size e ≡ true → reaches size e ≡ true
+pub extent-reached : (clusters size : ℕ) (e : Extent) → is_extent clusters size e ≡ true → reaches size e ≡ true
 extent-reached clusters size e is =
     let parts = and_parts (has_clusters e && nat_le header_clusters e.first) (nat_le (e.first + e.count) clusters && reaches size e) is in
     (and_parts (nat_le (e.first + e.count) clusters) (reaches size e) parts.1).1
@@ -60,7 +60,7 @@ are-extents clusters size (e ∷ extents) some lie reached =
     λ i. ((s.0 i && own.0 i) && (own.1 i && r.0 i)) && rest i
 
 -- the extents of spaces that pass their tests
-extents-hold : (next clusters size : ℕ) (spaces : List NamedSpace) → list_all (entry_holds next clusters size) spaces ≡ true
+pub extents-hold : (next clusters size : ℕ) (spaces : List NamedSpace) → list_all (entry_holds next clusters size) spaces ≡ true
     → list_all (is_extent clusters size) (flat_map (λ (n : NamedSpace). n.extents) spaces) ≡ true
 extents-hold next clusters size [] all = refl
 extents-hold next clusters size (n ∷ spaces) all =
@@ -71,7 +71,7 @@ extents-hold next clusters size (n ∷ spaces) all =
 
 -- ---- claims
 
-claim_holds : (clusters size : ℕ) (extents : List Extent) → header_clusters ≤ clusters → list_all (is_extent clusters size) extents ≡ true
+pub claim_holds : (clusters size : ℕ) (extents : List Extent) → header_clusters ≤ clusters → list_all (is_extent clusters size) extents ≡ true
     → no_two overlap extents ≡ true → can_claim (clusters_of extents) (new_clusters clusters) ≡ true
 claim_holds clusters size extents le all apart =
     let some = all-weaker (is_extent clusters size) has_clusters extents (extent-some clusters size) all in
@@ -310,7 +310,7 @@ module _ (next clusters size : ℕ) (xs ys : List (Option NamedSpace)) (n : Name
 
 -- ---- a later table of a longer device
 
-later_table : (next later clusters size more : ℕ) (entries : List (Option NamedSpace)) → next ≤ later → later ≤ last_space → size ≤ more
+later_table : (next later clusters size more : ℕ) (entries : List (Option NamedSpace)) → next ≤ later → later ≤ last_space → (size ≤ more) ⊎ (cluster_bytes * clusters ≤ more)
     → IsTable next clusters size entries → IsTable later clusters more entries
 later_table next later clusters size more entries after most longer table =
     let h = table_parts next clusters size entries table in
@@ -330,8 +330,9 @@ later_table next later clusters size more entries after most longer table =
     extent e is =
         let parts = and_parts (has_clusters e && nat_le header_clusters e.first) (nat_le (e.first + e.count) clusters && reaches size e) is in
         let end = and_parts (nat_le (e.first + e.count) clusters) (reaches size e) parts.1 in
+        let within = leb-true (e.first + e.count) clusters end.0 in
         let reached = leb-true (cluster_bytes * (e.first + e.count)) size end.1 in
-        let still = le-leb (cluster_bytes * (e.first + e.count)) more (omega arith) in
+        let still = le-leb (cluster_bytes * (e.first + e.count)) more (elim longer [ inl bytes ↦ omega arith | inr all ↦ omega arith ]) in
         λ i. parts.0 i && (end.0 i && still i)
 
     entry : (n : NamedSpace) → entry_holds next clusters size n ≡ true → entry_holds later clusters more n ≡ true
@@ -353,7 +354,14 @@ pub table_longer : (next clusters size more : ℕ) (entries : List (Option Named
     → IsTable next clusters more entries
 table_longer next clusters size more entries longer table =
     let h = table_parts next clusters size entries table in
-    later_table next next clusters size more entries (omega arith) h.next_most longer table
+    later_table next next clusters size more entries (omega arith) h.next_most (inl longer) table
+
+-- and on one that reaches to the end of all clusters
+pub table_reached : (next clusters size more : ℕ) (entries : List (Option NamedSpace)) → cluster_bytes * clusters ≤ more → IsTable next clusters size entries
+    → IsTable next clusters more entries
+table_reached next clusters size more entries whole table =
+    let h = table_parts next clusters size entries table in
+    later_table next next clusters size more entries (omega arith) h.next_most (inr whole) table
 
 -- ---- a space more
 
@@ -387,7 +395,7 @@ with_space next clusters size entries n le most more room table new =
     let least = h.next_least in
     let ordinal = new.ordinal in
     let at = find-free entries (omega arith) in
-    let later = later_table next (next + 1) clusters size size entries (omega arith) (omega arith) (omega arith) table in
+    let later = later_table next (next + 1) clusters size size entries (omega arith) (omega arith) (inl (omega arith)) table in
     let single = all-weaker (entry_holds next clusters size) (λ (m : NamedSpace). not (same_ordinal n m)) (present entries)
     (λ m holds.
     let below = (entry_parts next clusters size m holds).ordinal_below in
@@ -411,13 +419,13 @@ with_space next clusters size entries n le most more room table new =
 -- ---- a space less
 
 -- the entry of a space
-record SpaceEntry (ordinal : ℕ) (entries : List (Option NamedSpace)) (n : NamedSpace) : Type 0 where
-  before : List (Option NamedSpace)
-  behind : List (Option NamedSpace)
-  is : entries ≡ before ++ Some n ∷ behind
-  changed : (change : NamedSpace → Option NamedSpace) → changed_entry ordinal change entries ≡ before ++ change n ∷ behind
+pub record SpaceEntry (ordinal : ℕ) (entries : List (Option NamedSpace)) (n : NamedSpace) : Type 0 where
+  pub before : List (Option NamedSpace)
+  pub behind : List (Option NamedSpace)
+  pub is : entries ≡ before ++ Some n ∷ behind
+  pub changed : (change : NamedSpace → Option NamedSpace) → changed_entry ordinal change entries ≡ before ++ change n ∷ behind
 
-find-space : (ordinal : ℕ) (entries : List (Option NamedSpace)) (n : NamedSpace) → entry_of ordinal entries ≡ Some n → SpaceEntry ordinal entries n
+pub find-space : (ordinal : ℕ) (entries : List (Option NamedSpace)) (n : NamedSpace) → entry_of ordinal entries ≡ Some n → SpaceEntry ordinal entries n
 find-space ordinal [] n found = absurd (cc)
 find-space ordinal (None ∷ entries) n found =
     let rest = find-space ordinal entries n found in
@@ -571,7 +579,7 @@ with_longer_space next clusters size ordinal pages entries n more le most table 
 
 -- ---- clusters that were taken
 
-as_extents-some : (taken : List ℕ) → list_all has_clusters (as_extents taken) ≡ true
+pub as_extents-some : (taken : List ℕ) → list_all has_clusters (as_extents taken) ≡ true
 as_extents-some [] = refl
 as_extents-some (cluster ∷ taken) = first (as_extents taken) (as_extents-some taken)
   where
@@ -620,7 +628,7 @@ with_entry-set n (Some m ∷ entries) (suc i) lt none used =
     ap (λ (l : List (Option NamedSpace)). Some m ∷ l) (with_entry-set n entries i (omega arith) none used)
 
 -- what holds of all spaces holds of one
-all-present : (test : NamedSpace → Bool) (entries : List (Option NamedSpace)) (i : ℕ) (n : NamedSpace) → list_all test (present entries) ≡ true
+pub all-present : (test : NamedSpace → Bool) (entries : List (Option NamedSpace)) (i : ℕ) (n : NamedSpace) → list_all test (present entries) ≡ true
     → get_or entries i None ≡ Some n → test n ≡ true
 all-present test [] i n all at = absurd (cc)
 all-present test (None ∷ entries) zero n all at = absurd (cc)
@@ -660,7 +668,7 @@ changed_entry-set next clusters size entries i n change table at = at-place entr
 
 -- ---- a base that spells a table
 
-named-raw : (entries : List (Option NamedSpace)) → map named_in (map raw_of entries) ≡ entries
+pub named-raw : (entries : List (Option NamedSpace)) → map named_in (map raw_of entries) ≡ entries
 named-raw [] = refl
 named-raw (None ∷ entries) = ap (λ (l : List (Option NamedSpace)). None ∷ l) (named-raw entries)
 named-raw (Some n ∷ entries) = ap (λ (l : List (Option NamedSpace)). Some n ∷ l) (named-raw entries)

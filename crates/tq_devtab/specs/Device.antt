@@ -1,5 +1,5 @@
 -- A device that is made, and one that is made blank again.
-use Rattle.std.specs.Prelude.{max, ◌≡◌, ◌⊎◌, ℕ, ◌+◌, ◌==◌, ◌<◌, ◌≤◌, true, if◌then◌else◌, List, [], length, get_or, replicate, Some, None}
+use Rattle.std.specs.Prelude.{max, ◌≡◌, ◌⊎◌, ℕ, ◌+◌, ◌-◌, ◌==◌, ◌<◌, ◌≤◌, true, if◌then◌else◌, List, [], length, get_or, replicate, Some, None}
 use Rattle.tq_model.specs.Site.{table_entries, present}
 use Rattle.tq_model.specs.DeviceForm.{Journal, header_bytes, page_bytes, journal_a, journal_b, journal_log_bytes}
 use Rattle.tq_model.specs.Reading.{DevicePart, device_part, device_tests, hold_all}
@@ -38,6 +38,11 @@ HasNoSpace d = present d.entries ≡ []
 abbrev pub HasNoJournal : List ℕ → Type 0
 HasNoJournal image = (i : ℕ) → journal_a ≤ i → i < journal_b + (page_bytes + journal_log_bytes) → get_or image i 0 ≡ 0
 
+-- both selectors of the header choose area A, by a zero
+pub record HasFirstAreas (image : List ℕ) : Type 0 where
+  pub table : get_or image 512 0 ≡ 0
+  pub journal : get_or image 513 0 ≡ 0
+
 -- the same bytes before this address
 abbrev pub IsSameBelow : ℕ → List ℕ → List ℕ → Type 0
 IsSameBelow end old new = (i : ℕ) → i < end → get_or new i 0 ≡ get_or old i 0
@@ -55,3 +60,13 @@ IsAny image = Unit {0}
 -- no more is said of how an image came about
 abbrev pub IsAnyStep : List ℕ → List ℕ → Type 0
 IsAnyStep old new = Unit {0}
+
+-- neither is blank, and both have the same bytes before the last one of the header
+pub record IsStillHeaded (old new : List ℕ) : Type 0 where
+  pub was : header_bytes ≤ length old
+  pub size : header_bytes ≤ length new
+  pub bytes : IsSameBelow (header_bytes - 1) old new
+
+-- an erasing that a stop may cut short
+abbrev pub IsErasing : List ℕ → List ℕ → Type 0
+IsErasing old new = IsBlank new ⊎ IsStillHeaded old new

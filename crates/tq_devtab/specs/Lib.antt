@@ -3,3 +3,8 @@ pub mod Spelling
 pub mod Device
 pub mod Made
 pub mod TableParts
+pub mod Volume
+pub mod Header
+pub mod InMemory
+pub mod Errors
+pub mod Reserved

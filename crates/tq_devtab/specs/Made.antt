@@ -2,7 +2,7 @@
 use Rattle.std.specs.Prelude.{◌≡◌, ◌<◌, ◌≤◌, ◌-◌, ◌*◌, ◌+◌, ℕ, List, length, get_or, codes, nat_lt, if◌then◌else◌}
 use Rattle.tq_field.specs.Places.{run_at, number_at}
 use Rattle.tq_model.specs.DeviceForm.{header_bytes, page_bytes, table_a, journal_a}
-use Rattle.tq_devtab.specs.Device.{HasPart, HasNoJournal, IsSameBelow, new_part}
+use Rattle.tq_devtab.specs.Device.{HasPart, HasNoJournal, HasFirstAreas, IsSameBelow, new_part}
 
 -- The bytes with which pages begin
 
@@ -48,3 +48,4 @@ pub record IsLaidOut (place site clusters : ℕ) (image : List ℕ) : Type 0 whe
   pub size : length image ≡ header_bytes - 1
   pub part : (c : List ℕ) → header_bytes ≤ length c → IsSameBelow (header_bytes - 1) image c → HasPart place (new_part place site clusters) c
   pub bare : 1 ≤ place → HasNoJournal image
+  pub first : HasFirstAreas image

@@ -5,7 +5,7 @@ ghost use Rattle.tq_host.specs.View.{IsSettled};
 ghost use Rattle.tq_host.specs.Calls.{HasCause};
 ghost use Rattle.tq_host.specs.Within.{KeepsRest, Within};
 ghost use Rattle.tq_model.specs.Site.{least_clusters, most_clusters};
-ghost use Rattle.tq_devtab.specs.Device.{IsBlank, HasPart, HasNoJournal, IsBlankOr, IsAnyStep, new_part};
+ghost use Rattle.tq_devtab.specs.Device.{IsBlank, HasPart, HasNoJournal, HasFirstAreas, IsBlankOr, IsAnyStep, new_part};
 ghost use Rattle.tq_devtab.specs.Made.{IsMadeTo, IsPaged, IsLaidOut};
 
 use crate::pages::{base_start, header_start, journal_start, padded, page_start};
@@ -15,7 +15,7 @@ use tq_model::HEADER_BYTES;
 
 /// Makes a blank device one of this site, at least 1, with so many clusters, 5 to 8,192, and no
 /// space; device 0 has a site journal of epoch 1 and no decision, and the areas of one are zero on
-/// the others. A stop inside leaves a blank device or the new one.
+/// the others. Both selectors choose area A. A stop inside leaves a blank device or the new one.
 pub fn create<H: Host>(host: &mut H, dev: u8, site: u32, clusters: u32) -> Result<(), Failed>
     requires dev { dev < 8 }
     requires site { 1 ≤ site }
@@ -23,6 +23,7 @@ pub fn create<H: Host>(host: &mut H, dev: u8, site: u32, clusters: u32) -> Resul
     requires most { clusters ≤ most_clusters }
     ensures done { OnOk result (H.tells.reads → HasPart dev (new_part dev site clusters) ((H.view host.new).reads dev)) }
     ensures bare { OnOk result (H.tells.reads → 1 ≤ dev → HasNoJournal ((H.view host.new).reads dev)) }
+    ensures first { OnOk result (H.tells.reads → HasFirstAreas ((H.view host.new).reads dev)) }
     ensures settled { OnOk result (IsSettled dev (H.view host.new)) }
     ensures stop { ((c : List ℕ) → (H.view host.old).may_leave dev c → IsBlank c)
         → Within dev IsAnyStep (IsBlankOr dev (new_part dev site clusters)) (H.view host.old) (H.view host.new) }

@@ -7,7 +7,7 @@ ghost use Rattle.tq_model.specs.Site.{least_clusters, most_clusters};
 ghost use Rattle.tq_model.specs.DeviceForm as form;
 ghost use Rattle.tq_model.specs.DeviceForm.{raw_entry, raw_table, table_bytes, extents_start};
 ghost use Rattle.tq_model.specs.Reading.{hold_all, named_in, used_entries};
-ghost use Rattle.tq_devtab.specs.Table.{base_tests, IsBase, IsTable, entry_view, entries_view, owned_by};
+ghost use Rattle.tq_devtab.specs.Table.{base_tests, IsBase, IsTable, entry_view, entries_view};
 ghost use Rattle.tq_devtab.specs.TableParts as parts;
 ghost use Rattle.tq_devtab.specs.TableParts.{entry_holds};
 
@@ -20,7 +20,6 @@ use crate::layout::{
 };
 use crate::spaces::owned_clusters;
 use std::alloc::{AllocError, Global};
-use tq_extent::ExtentList;
 use tq_model::{LAST_SPACE, MOST_PAGES, name_in};
 use tq_types::Name;
 
@@ -31,7 +30,6 @@ pub(crate) struct DecodedTable {
     pub(crate) next: u32,
     /// 16 entries
     pub(crate) entries: Vec<Option<TableEntry>>,
-    pub(crate) owned: ExtentList,
 }
 
 /// What the spaces of a table keep within: the ordinal of the next one, and the clusters and the
@@ -58,7 +56,8 @@ pub(crate) fn decode_table(
     ensures holds { IfOk result (λ found. IfSome found (λ t. hold_all (base_tests clusters size base.now) ≡ true)) }
     ensures base { IfOk result (λ found. IfSome found (λ t. IsBase t.next (entries_view t.entries.items) base.now)) }
     ensures table { IfOk result (λ found. IfSome found (λ t. IsTable t.next clusters size (entries_view t.entries.items))) }
-    ensures owned { IfOk result (λ found. IfSome found (λ t. t.owned ≡ owned_by clusters (entries_view t.entries.items))) }
+    // What is read are bytes, so that a name ends within the base.
+    ensures bytes { (i : ℕ) → get_or base.now i 0 < 256 }
 {
     if !is_headed(base) || !is_counted(base) {
         return Ok(None);
@@ -72,14 +71,10 @@ pub(crate) fn decode_table(
     let Some(entries) = decode_entries(alloc, base, limits)? else {
         return Ok(None);
     };
-    let Some(owned) = owned_clusters(alloc, clusters, entries.as_slice())? else {
+    let Some(_owned) = owned_clusters(alloc, clusters, entries.as_slice())? else {
         return Ok(None);
     };
-    Ok(Some(DecodedTable {
-        next,
-        entries,
-        owned,
-    }))
+    Ok(Some(DecodedTable { next, entries }))
 }
 
 /// Whether the mark and the next ordinal are those of a table.

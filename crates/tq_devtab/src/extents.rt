@@ -3,7 +3,7 @@
 ghost use Rattle.std.specs.Prelude.{◌≡◌, ◌+◌, ◌*◌, ◌≤◌, ◌<◌, ◌^◌, length, IfOk};
 ghost use Rattle.std.specs.List.{list_all, sum_by};
 ghost use Rattle.tq_model.specs.Site as site;
-ghost use Rattle.tq_model.specs.DeviceForm.{extents_at};
+ghost use Rattle.tq_model.specs.DeviceForm.{extents_at, cluster_bytes};
 ghost use Rattle.tq_model.specs.Reading as reading;
 ghost use Rattle.tq_model.specs.declared.answer.Extent.{Extent};
 ghost use Rattle.tq_devtab.specs.TableParts as parts;
@@ -14,7 +14,7 @@ use std::alloc::{AllocError, Global};
 use tq_model::{CLUSTER_BYTES, Extent, Extents};
 
 /// The clusters of the header, which no space has.
-const HEADER_CLUSTERS: u32 = 4;
+pub(crate) const HEADER_CLUSTERS: u32 = 4;
 
 /// The pages of a cluster.
 const CLUSTER_PAGES: u64 = 32;
@@ -58,6 +58,13 @@ fn cluster_count(extents: &[Extent]) -> u64
     extents.iter().map(|extent| u64::from(extent.count)).sum()
 }
 
+/// The bytes that a device has to have so that it reaches to the end of an extent.
+pub(crate) fn extent_end(extent: Extent) -> u64
+    ensures { result ≡ cluster_bytes * (extent.first + extent.count) }
+{
+    CLUSTER_BYTES * (u64::from(extent.first) + u64::from(extent.count))
+}
+
 /// Whether each of these extents lies on a device of so many clusters and bytes.
 fn are_extents(extents: &[Extent], clusters: u32, size: u64) -> bool
     ensures { result ≡ list_all (reading.is_extent clusters size) extents.now }
@@ -68,7 +75,7 @@ fn are_extents(extents: &[Extent], clusters: u32, size: u64) -> bool
 }
 
 /// How many clusters a space with so many pages has.
-fn clusters_for(pages: u32) -> u64
+pub(crate) fn clusters_for(pages: u32) -> u64
     ensures { result ≡ site.clusters_for pages }
 {
     (u64::from(pages) + (CLUSTER_PAGES - 1)) / CLUSTER_PAGES

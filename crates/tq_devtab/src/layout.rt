@@ -23,3 +23,6 @@ pub(crate) const ORDINAL: usize = 132;
 pub(crate) const PAGES: usize = 136;
 
 pub(crate) const EXTENT_COUNT: usize = 140;
+
+/// The bytes of a base.
+pub(crate) const BASE_BYTES: usize = 40_960;

@@ -1,11 +1,12 @@
 //! The spaces of a table beside each other.
 
-ghost use Rattle.std.specs.Prelude.{◌≡◌, ◌≤◌, true, false, not, IfOk, IfSome, IfNone};
+ghost use Rattle.std.specs.Prelude.{◌≡◌, Option, ◌≤◌, ◌<◌, true, false, not, nat_lt, length, get_or, set, is_some, Some, None, IfOk, IfSome, IfNone};
 ghost use Rattle.std.specs.List.{list_all};
-ghost use Rattle.tq_model.specs.Site.{least_clusters, most_clusters};
-ghost use Rattle.tq_model.specs.Reading.{no_two};
+ghost use Rattle.std.specs.Str.{bytes_eq};
+ghost use Rattle.tq_model.specs.Site.{least_clusters, most_clusters, present};
+ghost use Rattle.tq_model.specs.Reading.{NamedSpace, no_two};
 ghost use Rattle.tq_extent.specs.Clusters.{clusters_of, new_clusters, can_claim};
-ghost use Rattle.tq_devtab.specs.Table.{entry_view, entries_view, extents_of, owned_by};
+ghost use Rattle.tq_devtab.specs.Table.{changed_entry, entry_of, entry_view, entries_view, extents_of, owned_by, with_entry};
 ghost use Rattle.tq_devtab.specs.TableParts as parts;
 ghost use Rattle.tq_devtab.specs.TableParts.{spaces_of};
 
@@ -92,4 +93,80 @@ pub(crate) fn owned_clusters(
         return Ok(None);
     }
     claim(alloc, clusters, entries)
+}
+
+/// Whether one of these spaces has this name.
+pub(crate) fn has_named(name: &[u8], entries: &[Option<TableEntry>]) -> bool
+    ensures { result ≡ not (list_all (λ m. not (bytes_eq name.now m.name)) (spaces_of entries.now)) }
+{
+    for entry in entries {
+        let Some(space) = entry else {
+            continue;
+        };
+        if name == space.name.as_bytes() {
+            return true;
+        }
+    }
+    false
+}
+
+/// Whether one of these entries is not used.
+pub(crate) fn has_unused(entries: &[Option<TableEntry>]) -> bool
+    ensures { result ≡ nat_lt (length (spaces_of entries.now)) (length entries.now) }
+{
+    for entry in entries {
+        if entry.is_none() {
+            return true;
+        }
+    }
+    false
+}
+
+/// The space of that ordinal.
+pub(crate) fn with_ordinal(entries: &[Option<TableEntry>], ordinal: u32) -> Option<&TableEntry>
+    ensures some { IfSome result (λ space. entry_of ordinal (entries_view entries.now) ≡ Some (entry_view space.now)) }
+    ensures none { IfNone result (entry_of ordinal (entries_view entries.now) ≡ None) }
+{
+    for entry in entries {
+        let Some(space) = entry else {
+            continue;
+        };
+        if space.ordinal == ordinal {
+            return Some(space);
+        }
+    }
+    None
+}
+
+/// The lowest entry that is not used, where there is one.
+pub(crate) fn lowest_unused(entries: &[Option<TableEntry>]) -> usize
+    requires room { length (present (entries_view entries.now)) < length entries.now }
+    ensures within { result < length entries.now }
+    ensures lowest { (n : NamedSpace) → with_entry n (entries_view entries.now) ≡ set (entries_view entries.now) result (Some n) }
+{
+    for (index, entry) in entries.iter().enumerate() {
+        let Some(_space) = entry else {
+            return index;
+        };
+    }
+    0
+}
+
+/// The entry of the space of that ordinal, which is there.
+pub(crate) fn space_at(entries: &[Option<TableEntry>], ordinal: u32) -> usize
+    requires there { is_some (entry_of ordinal (entries_view entries.now)) ≡ true }
+    ensures within { result < length entries.now }
+    ensures space { get_or (entries_view entries.now) result None ≡ entry_of ordinal (entries_view entries.now) }
+    ensures change { (change : NamedSpace → Option NamedSpace) (n : NamedSpace) → entry_of ordinal (entries_view entries.now) ≡ Some n
+        → changed_entry ordinal change (entries_view entries.now) ≡ set (entries_view entries.now) result (change n) }
+{
+    for (index, entry) in entries.iter().enumerate() {
+        let Some(space) = entry else {
+            continue;
+        };
+        if space.ordinal == ordinal {
+            return index;
+        }
+    }
+    0
 }

@@ -129,6 +129,12 @@ reaches_extents (e ∷ extents) image long =
 pub header-owned : (image : List ℕ) → owned_bytes (numbers_from 0 header_clusters) image ≡ run_at 0 header_bytes image
 header-owned image = run-owned 0 header_clusters image
 
+-- a byte of the device that is one of them
+pub header_byte_at : (i : ℕ) (image : List ℕ) → i < header_bytes → get_or (owned_bytes (numbers_from 0 header_clusters) image) i 0 ≡ get_or image i 0
+header_byte_at i image lt =
+    let here : 0 + i ≡ i = omega arith in
+    ap (λ (bytes : List ℕ). get_or bytes i 0) (header-owned image) ∙ get_or-run_at 0 header_bytes image i 0 lt ∙ ap (λ k. get_or image k 0) here
+
 pub header_reached : (image : List ℕ) → header_bytes ≤ length image → reaches (numbers_from 0 header_clusters) image ≡ true
 header_reached image long = reaches_run 0 header_clusters image long
 

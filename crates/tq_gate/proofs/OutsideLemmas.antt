@@ -1,18 +1,19 @@
 -- Contents of an owner whose bytes change beside a log.
-use Rattle.std.proofs.Common.{◌≡◌, ◌⊎◌, inl, inr, ◌<◌, ◌≤◌, ℕ, ◌+◌, List, length, get_or, sym, ◌∙◌, ap, arith}
+use Rattle.std.proofs.Common.{◌≡◌, ◌⊎◌, inl, inr, ◌<◌, ◌≤◌, ℕ, ◌+◌, true, List, length, get_or, sym, ◌∙◌, ap, arith}
 use Rattle.std.specs.Prelude.{◌%◌, ◌==◌, if◌then◌else◌}
 use Rattle.std.specs.Option.{option_map}
 use Rattle.std.proofs.lemmas.Bool.Decides.{nat_tests}
 use Rattle.tq_host.proofs.Bytes.{before_or_after}
-use Rattle.tq_extent.specs.Bytes.{owned_bytes}
+use Rattle.tq_extent.specs.Bytes.{owned_bytes, reaches}
+use Rattle.tq_extent.proofs.BytesLemmas.{length-owned}
 use Rattle.tq_field.specs.GatedLog.{log_reading}
 use Rattle.tq_gate.specs.declared.log.GateLog.{GateLog}
 use Rattle.tq_gate.specs.declared.layout.Layout.{Layout}
 use Rattle.tq_gate.specs.declared.layout.Areas.{Areas}
 use Rattle.tq_gate.specs.declared.layout.Areas.TheVariants.{One, Two}
 use Rattle.tq_gate.specs.Layout.{clusters_of, bytes_in, first_area, area_length, areas_end, total_length, layout_end, IsSelector, IsPlaced}
-use Rattle.tq_gate.specs.Reading.{content, content_on, chosen, area_of}
-use Rattle.tq_gate.specs.Log.{IsSameBeside, IsSameButAreas, IsSameButIn}
+use Rattle.tq_gate.specs.Reading.{Content, content, content_on, chosen, area_of}
+use Rattle.tq_gate.specs.Log.{IsLog, IsSameBeside, IsSameButAreas, IsSameButIn}
 use Rattle.tq_gate.proofs.Contents.{content_in, fits_none, fits_some, chosen_same, area_same}
 
 by_bounds : (n first long : ℕ)
@@ -74,3 +75,20 @@ content_on_beside log other old new one_owner apart same =
     ap (λ (clusters : List ℕ). content other (owned_bytes clusters new)) one_owner
     ∙ content_beside log.layout other (bytes_in log.layout old) (bytes_in log.layout new) apart same.bytes
     ∙ sym (ap (λ (clusters : List ℕ). content other (owned_bytes clusters old)) one_owner)
+
+-- A log stays open where the bytes of its areas and its selector stay.
+pub log_elsewhere : (log : GateLog) (k : Content) (old new : List ℕ) → reaches (clusters_of log.layout) new ≡ true
+    → ((i : ℕ) → IsOf log.layout i → get_or (bytes_in log.layout new) i 0 ≡ get_or (bytes_in log.layout old) i 0) → IsLog log k old → IsLog log k new
+log_elsewhere log k old new reach same is =
+    let layout = log.layout in
+    let a = bytes_in layout old in
+    let b = bytes_in layout new in
+    let size : length b ≡ length a = length-owned (clusters_of layout) new reach ∙ sym (length-owned (clusters_of layout) old is.reach) in
+    record {
+      reach = reach;
+      is = record {
+        reads = content_elsewhere layout a b size (λ i from to. same i (inl (from, to))) (λ i selects. same i (inr selects)) ∙ is.is.reads;
+        area_is = is.is.area_is ∙ sym (chosen_same layout layout.areas a b (λ i selects. same i (inr selects)));
+        end_is = is.is.end_is;
+      };
+    }

@@ -2,9 +2,8 @@ ghost use Rattle.std.specs.Prelude.{true, ◌≡◌, ◌≢◌, ℕ, List, [], l
 ghost use Rattle.tq_host.specs.Calls.{HasCauseOf};
 ghost use Rattle.tq_extent.specs.Bytes.{reaches, IsQuiet};
 ghost use Rattle.tq_gate.specs.declared.fault.GateError.TheVariants as fault;
-ghost use Rattle.tq_gate.specs.Layout.{clusters_of, bytes_in, log_length, IsLaidOut, IsPlaced};
-ghost use Rattle.tq_gate.specs.declared.layout.Areas.{Areas};
-ghost use Rattle.tq_gate.specs.Reading.{Content, content_on, AreRecords};
+ghost use Rattle.tq_gate.specs.Layout.{clusters_of, bytes_in, first_area, base_length, log_length, IsLaidOut, IsPlaced};
+ghost use Rattle.tq_gate.specs.Reading.{Content, content_on, area_of, AreRecords};
 ghost use Rattle.tq_field.specs.GatedLog.{end_of};
 ghost use Rattle.tq_gate.specs.Log.{IsLog, layout_of, free_in};
 ghost use Rattle.tq_gate.specs.Loading.{IsRefused, IsRefusedLog};
@@ -67,13 +66,13 @@ fn open_log(
 }
 
 impl GateLog {
-    /// The log of one area that lies there and has no payloads, without a call on the device.
+    /// The log that lies there, in its first area, and has no payloads, without a call on the device.
     pub fn empty(layout: Layout) -> GateLog
         requires laid_out { IsLaidOut layout }
-        requires one { layout.areas ≡ Areas.One }
         ensures layout { layout_of result ≡ layout }
         ensures free { free_in result ≡ log_length layout }
-        ensures on { (k : Content) (image : List ℕ) → reaches (clusters_of layout) image ≡ true → content_on layout image ≡ Some k → k.payloads ≡ [] → IsLog result k image }
+        ensures on { (k : Content) (image : List ℕ) → reaches (clusters_of layout) image ≡ true → area_of layout (bytes_in layout image) ≡ first_area layout
+            → content_on layout image ≡ Some k → k.payloads ≡ [] → IsLog result k image }
     {
         let area = layout.first_area();
         GateLog {
@@ -93,6 +92,7 @@ impl GateLog {
         requires reach { H.tells.reads → reaches (clusters_of layout) ((H.view host.old).reads layout.dev) ≡ true }
         ensures loaded { IfOk result (λ loaded. H.tells.reads → IsLog loaded.log (content_of loaded) ((H.view host.old).reads layout.dev)) }
         ensures layout { IfOk result (λ loaded. layout_of loaded.log ≡ layout) }
+        ensures base { IfOk result (λ loaded. length loaded.base.items ≡ base_length layout) }
         ensures refused { IfErr result (λ e. H.tells.reads → IsRefused layout (bytes_in layout ((H.view host.old).reads layout.dev)) e) }
         ensures quiet { IsQuiet layout.dev (H.view host.old) (H.view host.new) }
         ensures cause { HasCauseOf (IsErrOf result fault.Device) (H.view host.old).faults (H.view host.new).faults }

@@ -11,18 +11,18 @@ use Rattle.tq_model.specs.Step.{Outcome, can_boot, booted, boot, ready, with_nex
 use Rattle.tq_model.specs.Reading.{site_found}
 use Rattle.tq_model.specs.MachineWithFaults.{Condition, Up, Down, Turn, boot_turn, reboot_turn, HaveSite, turn_at}
 use Rattle.tq_model.proofs.Images.{found_durable}
-use Rattle.tq_run.specs.declared.site.Manager.{Manager}
+use Rattle.tq_coord.specs.declared.site.Manager.{Manager}
 use Rattle.tq_run.specs.declared.state.State.{State}
 use Rattle.tq_run.specs.declared.state.State.TheVariants as states
-use Rattle.tq_run.specs.Counts.{Rises}
+use Rattle.tq_coord.specs.Counts.{Rises}
 use Rattle.tq_run.specs.Idle.{IsIdle}
-use Rattle.tq_run.specs.Manager.{site_of, is_bootable, IsBooted}
-use Rattle.tq_run.specs.Stops.{ImagesHave, ImagesHaveAny, AreOldOrBooted, ImagesMatch}
+use Rattle.tq_coord.specs.Manager.{site_of, is_bootable, IsBooted}
+use Rattle.tq_coord.specs.Images.{ImagesHave, ImagesHaveAny, AreOldOrBooted, ImagesMatch}
 use Rattle.tq_run.specs.Turns.{AreInCondition, turn_between, AreBeforeOrAfter}
 use Rattle.tq_run.specs.Standing.{StateMatches, HasTurned, IsTurning}
-use Rattle.tq_run.specs.Words.{device_count}
+use Rattle.tq_coord.specs.Frame.{device_count}
 use Rattle.tq_run.proofs.CountLemmas.{some_is, steady_cause, risen_cause}
-use Rattle.tq_run.proofs.FoundLemmas.{found_have}
+use Rattle.tq_coord.proofs.ImageLemmas.{found_have}
 use Rattle.tq_run.proofs.RespondLemmas.{images_in}
 
 -- Some element of a list
@@ -215,9 +215,6 @@ module _ {tells : Told} (t : TellsAll tells) (old new : View) (lawful : IsLawful
 
     pub quiet_stop : new.faults ≡ old.faults → IsTurning state Boot old new
     quiet_stop quiet = record { failed = false; cause = steady_cause quiet (λ e. cc); within = quiet_within }
-
-    pub failed_stop : Rises old.faults new.faults → IsTurning state Boot old new
-    failed_stop rises = record { failed = true; cause = risen_cause rises refl; within = failed_within }
 
     -- up again
     pub booted_turn : new.faults ≡ old.faults → (m : Manager) → IsBooted m old new → ImagesMatch m new → HasTurned state (states.Up m) Boot (ready (site_of m)) old new

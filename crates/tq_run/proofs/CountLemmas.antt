@@ -1,5 +1,5 @@
 -- How the counts of the parts of a run add up.
-use Rattle.std.proofs.Common.{◌≡◌, ℕ, Result, Ok, Err, Some, refl, ◌∙◌, ap, subst, IfOk, OnOk, OnErr, arith}
+use Rattle.std.proofs.Common.{◌≡◌, ℕ, Result, Ok, Err, Some, refl, ◌∙◌, ap, subst, OnOk, OnErr, arith}
 use Rattle.std.specs.Result.{IsErrAnd}
 use Rattle.tq_host.specs.View.{View}
 use Rattle.tq_host.specs.Calls.{HasCauseOf}
@@ -7,21 +7,18 @@ use Rattle.tq_run.specs.declared.status.Status.TheVariants as status
 use Rattle.tq_run.specs.declared.status.RunEnd.{RunEnd}
 use Rattle.tq_run.specs.declared.status.RunEnd.TheVariants.{Damaged, Memory, Input, Output, Device, TooMuchInput}
 use Rattle.tq_run.specs.Ending.{status_for}
-use Rattle.tq_run.specs.declared.status.BootFailure.{BootFailure}
-use Rattle.tq_run.specs.declared.status.BootFailure.TheVariants as boots
+use Rattle.tq_coord.specs.declared.failure.BootFailure.{BootFailure}
+use Rattle.tq_coord.specs.declared.failure.BootFailure.TheVariants as boots
 use Rattle.tq_run.specs.declared.status.StartEnd.TheVariants as starts
 use Rattle.tq_run.specs.declared.status.ScriptEnd.{ScriptEnd}
 use Rattle.tq_run.specs.declared.status.ScriptEnd.TheVariants as scripts
-use Rattle.tq_run.specs.Counts.{Rises, IsQuiet, StopCounts, IsCalm, RunStopCounts, HasRunCounts, itself, run_end_of_script, start_end_of_boot}
+use Rattle.tq_coord.specs.Counts.{Rises}
+use Rattle.tq_run.specs.Counts.{IsQuiet, StopCounts, IsCalm, RunStopCounts, HasRunCounts, itself, run_end_of_script, start_end_of_boot}
 
 -- a fact of an Ok, where there is one
 pub on_ok : {T E : Type 0} (r : Result T E) (G : Type 0) → ((x : T) → r ≡ Ok x → G) → OnOk r G
 on_ok (Ok x) G f = f x refl
 on_ok (Err e) G f = tt
-
-pub if_ok : {T E : Type 0} (r : Result T E) (P : T → Type 0) → ((x : T) → r ≡ Ok x → P x) → IfOk r P
-if_ok (Ok x) P f = f x refl
-if_ok (Err e) P f = tt
 
 pub of_ok : {T E : Type 0} (r : Result T E) (x : T) (A : Type 0) → r ≡ Ok x → OnOk r A → A
 of_ok {T} {E} r x A e h = subst (λ (q : Result T E). OnOk q A) e h

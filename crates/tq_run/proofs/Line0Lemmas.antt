@@ -16,23 +16,21 @@ use Rattle.tq_model.specs.Text.{line_text}
 use Rattle.tq_model.specs.Reading.{site_found}
 use Rattle.tq_model.proofs.LineText.{length-line_text}
 use Rattle.tq_model.specs.MachineWithFaults.{Up, Failures, Turn, failing_turn, boot_turn, rose_at, turn_at}
-use Rattle.tq_run.specs.declared.site.Manager.{Manager}
+use Rattle.tq_coord.specs.declared.site.Manager.{Manager}
 use Rattle.tq_run.specs.declared.state.State.TheVariants as states
-use Rattle.tq_run.specs.declared.status.BootFailure.{BootFailure}
-use Rattle.tq_run.specs.declared.status.BootFailure.TheVariants as boots
-use Rattle.tq_run.specs.Counts.{CountsBoot}
+use Rattle.tq_coord.specs.declared.failure.BootFailure.{BootFailure}
+use Rattle.tq_coord.specs.declared.failure.BootFailure.TheVariants as boots
+use Rattle.tq_coord.specs.Counts.{CountsBoot}
 use Rattle.tq_run.specs.Ending.{trace_of}
 use Rattle.tq_run.specs.Output.{TellsMore, HasBegun}
-use Rattle.tq_run.specs.Manager.{site_of, IsBooted}
-use Rattle.tq_run.specs.Stops.{ImagesHave, ImagesHaveAny, ImagesMatch, HasNoNewImage, AreOldOrBooted}
+use Rattle.tq_coord.specs.Manager.{site_of, IsBooted}
+use Rattle.tq_coord.specs.Images.{ImagesHave, ImagesHaveAny, ImagesMatch, HasNoNewImage, AreOldOrBooted}
 use Rattle.tq_run.specs.Turns.{AreInCondition, AreBeforeOrAfter, RunsOver, IsAnswered, origin_of, none_failed}
 use Rattle.tq_run.specs.Standing.{StateMatches, HasStarted}
-use Rattle.tq_run.specs.Words.{device_count}
+use Rattle.tq_coord.specs.Frame.{device_count}
 use Rattle.tq_run.proofs.CountLemmas.{some_is, steady_cause, risen_cause}
-use Rattle.tq_run.proofs.FoundLemmas.{found_have}
-use Rattle.tq_run.proofs.RunDeviceLemmas.{same_found}
+use Rattle.tq_coord.proofs.ImageLemmas.{found_have, same_found, read_stands}
 use Rattle.tq_run.proofs.LeftAloneLemmas.{alone_attached}
-use Rattle.tq_run.proofs.BootStopLemmas.{read_stands}
 use Rattle.tq_run.proofs.BootTurnLemmas.{turn_up, site_up, stand_in, stand_for}
 use Rattle.tq_run.proofs.RespondLemmas.{images_in, still_in}
 use Rattle.tq_run.proofs.IdleLemmas.{idle_few}

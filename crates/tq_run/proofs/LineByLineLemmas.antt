@@ -17,15 +17,15 @@ use Rattle.tq_model.specs.MachineWithFaults.{Condition, Failures, Turn, turn_at,
 use Rattle.tq_run.specs.declared.state.State.{State}
 use Rattle.tq_run.specs.Input.{TakesOnly}
 use Rattle.tq_run.specs.Output.{TellsMore}
-use Rattle.tq_run.specs.Stops.{HasNoNewImage, IsWaiting, IsOfRun, IsCrashSafe}
+use Rattle.tq_coord.specs.Images.{HasNoNewImage}
+use Rattle.tq_run.specs.Stops.{IsWaiting, IsOfRun, IsCrashSafe}
 use Rattle.tq_run.specs.Ending.{IsDone, trace_of}
 use Rattle.tq_run.specs.Turns.{Origin, origin_of, none_failed, IsOfLines, GoesOn, IsAnswered, RunsOver, turn_between, trace_from, told_after}
 use Rattle.tq_run.specs.Standing.{StateMatches, HasTurned, IsTurning, HasReached, HasRun, HasStarted}
 use Rattle.tq_model.proofs.LineText.{length-line_text}
-use Rattle.tq_run.specs.Words.{device_count}
+use Rattle.tq_coord.specs.Frame.{device_count}
 use Rattle.tq_run.specs.Idle.{AreIdleLines, clock_at}
-use Rattle.tq_run.proofs.RunDeviceLemmas.{same_found}
-use Rattle.tq_run.proofs.BootStopLemmas.{read_stands}
+use Rattle.tq_coord.proofs.ImageLemmas.{same_found, read_stands}
 use Rattle.tq_run.proofs.IdleLemmas.{idle_few, idle_next}
 use Rattle.tq_run.proofs.LastLineLemmas.{clock_of}
 use Rattle.tq_run.proofs.WholeLemmas.{whole_still, whole_next}

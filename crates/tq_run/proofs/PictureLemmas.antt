@@ -3,7 +3,8 @@ use Rattle.std.proofs.Common.{◌≡◌, inl, inr, ⊎_elim, ◌∙◌}
 use Rattle.tq_host.specs.View.{View, Images, Picture}
 use Rattle.tq_host.specs.Within.{WithinAll, IsOfAll, Ran}
 use Rattle.tq_host.proofs.RunLemmas.{ran_on, ran_weaker}
-use Rattle.tq_run.specs.Stops.{HasNoNewImage, IsWaiting}
+use Rattle.tq_coord.specs.Images.{HasNoNewImage}
+use Rattle.tq_run.specs.Stops.{IsWaiting}
 
 -- a call on devices
 pub ran_all : (P : Picture → Type 0) (Q : Images → Type 0) (old new : View) → WithinAll Q old new → ((p : Picture) → IsOfAll Q old p → P p) → Ran P old new

@@ -11,19 +11,20 @@ use Rattle.tq_model.specs.Site.{Site, durable}
 use Rattle.tq_model.specs.Step.{step}
 use Rattle.tq_model.specs.Reading.{site_found}
 use Rattle.tq_model.specs.MachineWithFaults.{Condition, Up, Down, Turn, down_answer, steady_turn, turn_at}
-use Rattle.tq_run.specs.declared.site.Manager.{Manager}
+use Rattle.tq_coord.specs.declared.site.Manager.{Manager}
 use Rattle.tq_run.specs.declared.state.State.{State}
 use Rattle.tq_run.specs.declared.state.State.TheVariants as states
-use Rattle.tq_run.specs.Serving.{IsServed, ChangesOnce}
-use Rattle.tq_run.specs.Counts.{Rises}
-use Rattle.tq_run.specs.Manager.{site_of}
+use Rattle.tq_coord.specs.Serving.{IsServed, ChangesOnce}
+use Rattle.tq_coord.specs.Counts.{Rises}
+use Rattle.tq_coord.specs.Manager.{site_of}
 use Rattle.tq_run.specs.Idle.{IsIdle}
-use Rattle.tq_run.specs.Stops.{ImagesMatch, AreEither, HasNoNewImage}
+use Rattle.tq_coord.specs.Images.{ImagesMatch, AreEither, HasNoNewImage}
 use Rattle.tq_run.specs.Turns.{AreInCondition, turn_between, AreBeforeOrAfter}
 use Rattle.tq_run.specs.Standing.{StateMatches, StateImagesMatch, HasTurned, IsTurning}
-use Rattle.tq_run.specs.Words.{device_count}
+use Rattle.tq_coord.specs.Frame.{device_count}
 use Rattle.tq_run.proofs.CountLemmas.{steady_cause, risen_cause}
-use Rattle.tq_run.proofs.FoundLemmas.{stands_for, found_have}
+use Rattle.tq_coord.proofs.ForCallers.{stands_for}
+use Rattle.tq_coord.proofs.ImageLemmas.{found_have}
 
 -- What holds of the site, or of any sites, holds of each condition that the state matches.
 pub of_up : (m : Manager) (v : View) (P : Condition → Type 0) → (ImagesMatch m v → P (Up (site_of m))) → (c : Condition) → StateMatches (states.Up m) c v → P c
@@ -47,6 +48,10 @@ still_in states.Down c a b none is = of_down a (λ (x : Condition). StateMatches
 pub still_match : (state : State) (a b : View) → HasNoNewImage a b → StateImagesMatch state a → StateImagesMatch state b
 still_match (states.Up m) a b none on = λ image may. on image (none 0 image may)
 still_match states.Down a b none on = tt
+
+-- the pictures of a line that has an answer
+pub turning : {state state' : State} {request : Request} {a : Answer} {old new : View} → HasTurned state state' request a old new → IsTurning state request old new
+turning is = record { failed = is.failed; cause = is.cause; within = is.within }
 
 -- Turns of other lines than a boot
 
@@ -90,9 +95,6 @@ module _ (m : Manager) (request : Request) (a b : View) (ne : request ≢ Boot) 
   pub serving : b.faults ≡ a.faults → IsTurning (states.Up m) request a b
   serving same = record { failed = false; cause = steady_cause same (λ e. cc); within = within_up }
 
-  pub failing : Rises a.faults b.faults → IsTurning (states.Up m) request a b
-  failing rises = record { failed = true; cause = risen_cause rises refl; within = within_down }
-
   module _ (still : durable (step (site_of m) request).site ≡ durable (site_of m) → b.clock ≡ a.clock) where
     idles : (c : Condition) → StateMatches (states.Up m) c a → IsIdle c request → b.clock ≡ a.clock
     idles = of_up m a (λ (c : Condition). IsIdle c request → b.clock ≡ a.clock) (λ on idle. still idle.1)
@@ -124,9 +126,6 @@ module _ (m : Manager) (request : Request) (a b : View) (ne : request ≢ Boot) 
 -- and one while there is no site
 down_within : (request : Request) (a : View) (c : Condition) → StateMatches states.Down c a → WithinAll (AreBeforeOrAfter c (turn_between false a.reads c request)) a a
 down_within request a c is = starts_all (AreBeforeOrAfter c (turn_between false a.reads c request)) a (λ images may. inl (images_in states.Down c a is images may))
-
-pub refusing : (request : Request) (a : View) → IsTurning states.Down request a a
-refusing request a = record { failed = false; cause = steady_cause refl (λ e. cc); within = down_within request a }
 
 pub refused : (request : Request) (a : View) → request ≢ Boot → HasTurned states.Down states.Down request (down_answer request) a a
 refused request a ne = record {

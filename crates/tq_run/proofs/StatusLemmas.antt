@@ -12,9 +12,9 @@ use Rattle.tq_run.specs.declared.status.RunEnd.{RunEnd}
 use Rattle.tq_run.specs.declared.status.RunEnd.TheVariants.{Damaged, Memory, Input, Output, Device, TooMuchInput}
 use Rattle.tq_run.specs.Counts.{NoneRose, HasRunCounts, itself}
 use Rattle.tq_run.specs.Ending.{trace_of, blamed, blamed_in, status_for, FailsInLine0, IsComplete}
-use Rattle.tq_run.specs.Manager.{is_bootable}
+use Rattle.tq_coord.specs.Manager.{is_bootable}
 use Rattle.tq_run.specs.Output.{TellsMore, HasBegun}
-use Rattle.tq_run.specs.Words.{device_count}
+use Rattle.tq_coord.specs.Frame.{device_count}
 use Rattle.tq_run.proofs.CountLemmas.{of_ok}
 use Rattle.tq_run.proofs.LeftAloneLemmas.{contradicts}
 use Rattle.tq_run.proofs.Line0Lemmas.{calm_begun}

@@ -13,8 +13,8 @@ use Rattle.tq_model.specs.Reading.{site_found}
 use Rattle.tq_model.specs.MachineWithFaults.{Condition, Up, Down, Trace, Failures, Turn, Progress, count_before, count_at, found_at, turn, advance, after, beginning, HaveCondition, turn_at}
 use Rattle.tq_model.proofs.LineText.{length-line_text}
 use Rattle.tq_run.specs.Failures.{AreFailures}
-use Rattle.tq_run.specs.Stops.{HasNoNewImage}
-use Rattle.tq_run.specs.Words.{device_count}
+use Rattle.tq_coord.specs.Images.{HasNoNewImage}
+use Rattle.tq_coord.specs.Frame.{device_count}
 use Rattle.tq_run.specs.Turns.{AreInCondition, AreBeforeOrAfter, Origin, origin_of, none_failed, GoesOn, IsAnswered, IsOfLines, RunsOver, turn_between, trace_from, told_after}
 use Rattle.tq_run.proofs.PictureLemmas.{ran_all}
 use Rattle.tq_run.proofs.FailureAccountLemmas.{faults_of, next_choice, before_next, at_next, failures_next, get_or_told, get_or_next, count_last, count_same, none_failing}

@@ -1,11 +1,10 @@
 -- Which of the host's three counts rose, by the way in which a part of a run ended.
-use Rattle.std.specs.Prelude.{◌≡◌, ◌≤◌, ℕ, Result, Ok, Err}
+use Rattle.std.specs.Prelude.{◌≡◌, ◌≤◌, Result, Ok, Err}
 use Rattle.tq_host.specs.View.{View}
 use Rattle.tq_host.specs.Calls.{Rose}
-use Rattle.tq_spacefile.specs.declared.fault.FileError.{FileError}
-use Rattle.tq_spacefile.specs.declared.fault.FileError.TheVariants as files
-use Rattle.tq_run.specs.declared.status.BootFailure.{BootFailure}
-use Rattle.tq_run.specs.declared.status.BootFailure.TheVariants as boots
+use Rattle.tq_coord.specs.declared.failure.BootFailure.{BootFailure}
+use Rattle.tq_coord.specs.declared.failure.BootFailure.TheVariants as boots
+use Rattle.tq_coord.specs.Counts.{Rises}
 use Rattle.tq_run.specs.declared.status.StartEnd.{StartEnd}
 use Rattle.tq_run.specs.declared.status.StartEnd.TheVariants as starts
 use Rattle.tq_run.specs.declared.status.ScriptEnd.{ScriptEnd}
@@ -67,11 +66,6 @@ run_end_of_take end = run_end_of_read (read_end_of_take end)
 
 abbrev pub itself : RunEnd → RunEnd
 itself end = end
-
--- a count rose, and did not fall
-pub record Rises (before now : ℕ) : Type 0 where
-  pub later : before ≤ now
-  pub rose : Rose before now
 
 -- no count rose
 pub record IsQuiet (old new : View) : Type 0 where
@@ -141,17 +135,3 @@ RunStopCounts TooMuchInput old new = IsCalm old new
 abbrev pub HasRunCounts : {T E : Type 0} → (E → RunEnd) → Result T E → View → View → Type 0
 HasRunCounts end_of (Ok x) old new = IsCalm old new
 HasRunCounts end_of (Err stop) old new = RunStopCounts (end_of stop) old new
-
--- ---- Boots
-
-abbrev pub boot_failure_of : FileError → BootFailure
-boot_failure_of files.Damaged = boots.Damaged
-boot_failure_of files.Device = boots.Device
-boot_failure_of files.NoMemory = boots.Memory
-
--- the count of device failures rose where a device failed, and nowhere else
-abbrev pub CountsBoot : {T : Type 0} → Result T BootFailure → ℕ → ℕ → Type 0
-CountsBoot (Ok x) before now = now ≡ before
-CountsBoot (Err boots.Damaged) before now = now ≡ before
-CountsBoot (Err boots.Memory) before now = now ≡ before
-CountsBoot (Err boots.Device) before now = Rises before now

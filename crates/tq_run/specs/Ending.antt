@@ -12,8 +12,8 @@ use Rattle.tq_run.specs.declared.status.Status.TheVariants as status
 use Rattle.tq_run.specs.declared.status.RunEnd.{RunEnd}
 use Rattle.tq_run.specs.declared.status.RunEnd.TheVariants.{Damaged, Memory, Input, Output, Device, TooMuchInput}
 use Rattle.tq_run.specs.Failures.{AreFailures}
-use Rattle.tq_run.specs.Manager.{is_bootable}
-use Rattle.tq_run.specs.Words.{device_count}
+use Rattle.tq_coord.specs.Manager.{is_bootable}
+use Rattle.tq_coord.specs.Frame.{device_count}
 use Rattle.tq_run.specs.Turns.{origin_of}
 use Rattle.tq_run.specs.Idle.{AreIdleLines, AreWhole, clock_at}
 

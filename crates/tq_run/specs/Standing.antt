@@ -8,12 +8,12 @@ use Rattle.tq_model.specs.declared.request.Request.{Request}
 use Rattle.tq_model.specs.declared.request.Request.TheVariants.{Boot}
 use Rattle.tq_model.specs.Site.{Site}
 use Rattle.tq_model.specs.MachineWithFaults.{Condition, Failures, Up, Down}
-use Rattle.tq_run.specs.declared.site.Manager.{Manager}
+use Rattle.tq_coord.specs.declared.site.Manager.{Manager}
 use Rattle.tq_run.specs.declared.state.State.{State}
 use Rattle.tq_run.specs.declared.state.State.TheVariants as states
-use Rattle.tq_run.specs.Manager.{site_of}
-use Rattle.tq_run.specs.Stops.{ImagesMatch}
-use Rattle.tq_run.specs.Words.{device_count}
+use Rattle.tq_coord.specs.Manager.{site_of, next_of}
+use Rattle.tq_coord.specs.Images.{ImagesMatch}
+use Rattle.tq_coord.specs.Frame.{device_count}
 use Rattle.tq_run.specs.Idle.{IsIdle, AreIdleLines, AreWhole, clock_at}
 use Rattle.tq_run.specs.Turns.{AreInCondition, AreBeforeOrAfter, turn_between, Origin, origin_of, IsAnswered, IsOfLines, GoesOn}
 
@@ -30,9 +30,9 @@ StateMatches states.Down (Up s) v = ⊥
 StateMatches states.Down (Down sites) v = (images : Images) → AreNow v images → AreInCondition (Down sites) images
 
 -- the number of the next message
-abbrev pub next_of : State → ℕ
-next_of (states.Up m) = m.next
-next_of states.Down = 0
+abbrev pub next_in : State → ℕ
+next_in (states.Up m) = next_of m
+next_in states.Down = 0
 
 -- each image that a stop may leave has what the state holds of it
 abbrev pub StateImagesMatch : State → View → Type 0

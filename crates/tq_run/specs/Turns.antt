@@ -7,7 +7,7 @@ use Rattle.tq_model.specs.Site.{Site}
 use Rattle.tq_model.specs.Reading.{site_found}
 use Rattle.tq_model.specs.MachineWithFaults.{Condition, Trace, Failures, Turn, Progress, count_before, found_at, turn_at, beginning, after, HaveCondition}
 use Rattle.tq_run.specs.Failures.{AreFailures}
-use Rattle.tq_run.specs.Words.{device_count}
+use Rattle.tq_coord.specs.Frame.{device_count}
 
 -- One line
 

@@ -2,10 +2,6 @@
 use Rattle.std.specs.Prelude.{ℕ, ◌==◌, ◌&&◌, not, nat_lt, Bool, if◌then◌else◌, List, [], ◌∷◌, length, get_or, codes, Option, Some, None}
 use Rattle.std.specs.Str.{bytes_eq}
 
--- how many devices a run has: its words take one device word for now
-abbrev pub device_count : ℕ
-device_count = 1
-
 -- a word that may name a device: it is not empty and does not begin with a dash
 abbrev pub is_device_word : List ℕ → Bool
 is_device_word word = nat_lt 0 (length word) && not (get_or word 0 0 == 45)

@@ -6,15 +6,10 @@
 #![tactic(auto)]
 
 mod calls;
-mod devices;
-mod manager;
-mod planning;
 mod responding;
 mod running;
 mod script;
 mod serving;
-mod site;
-mod spaces;
 mod state;
 mod status;
 mod words;

@@ -4,15 +4,13 @@ ghost use Rattle.tq_host.specs.Within.{KeepsBeside};
 ghost use Rattle.tq_model.specs.declared.request.Request.{Request};
 ghost use Rattle.tq_model.specs.declared.request.Request.TheVariants as requests;
 ghost use Rattle.tq_model.specs.MachineWithFaults.{down_answer};
-ghost use Rattle.tq_run.specs.Frame.{LeavesOthers};
-ghost use Rattle.tq_run.specs.Standing.{next_of, StateImagesMatch, HasTurned, IsTurning};
+ghost use Rattle.tq_coord.specs.Frame.{LeavesOthers};
+ghost use Rattle.tq_run.specs.Standing.{next_in, StateImagesMatch, HasTurned, IsTurning};
 
-use crate::devices::readiness;
-use crate::manager::boot;
 use crate::serving::serve;
 use crate::state::State;
-use crate::status::{BootFailure, Failure};
 use std::alloc::{AllocError, Global};
+use tq_coord::{BootFailure, Failure, Manager};
 use tq_host::Host;
 use tq_model::{Answer, Request};
 
@@ -33,7 +31,7 @@ fn down_answer(request: &Request) -> Answer
 // A boot within a run: what was in memory is gone.
 fn reboot<H: Host>(alloc: Global, host: &mut H, state: &mut State) -> Result<Answer, AllocError>
     requires on { StateImagesMatch state.old (H.view host.old) }
-    ensures next { OnOk result (next_of state.new ≡ 0) }
+    ensures next { OnOk result (next_in state.new ≡ 0) }
     ensures on { OnOk result (StateImagesMatch state.new (H.view host.new)) }
     ensures turned { IfOk result (λ a. TellsAll H.tells → HasTurned state.old state.new requests.Boot a (H.view host.old) (H.view host.new)) }
     ensures stop { TellsAll H.tells → IsTurning state.old requests.Boot (H.view host.old) (H.view host.new) }
@@ -41,9 +39,9 @@ fn reboot<H: Host>(alloc: Global, host: &mut H, state: &mut State) -> Result<Ans
     ensures rest { KeepsBeside (H.view host.old) (H.view host.new) }
     ensures others { LeavesOthers (H.view host.old) (H.view host.new) }
 {
-    match boot(alloc, host) {
+    match Manager::boot(alloc, host) {
         Ok(manager) => {
-            let answer = readiness(&manager);
+            let answer = manager.readiness();
             *state = State::Up(manager);
             Ok(answer)
         }
@@ -60,7 +58,7 @@ fn reboot<H: Host>(alloc: Global, host: &mut H, state: &mut State) -> Result<Ans
 }
 
 // Does what a line other than a boot asks for, where there is a site.
-#[tactic(auto, using(crate::proofs::DeviceStopLemmas::beside_kept))]
+#[tactic(auto, using(tq_coord::proofs::ForCallers::beside_kept))]
 fn serve_standing<H: Host>(
     alloc: Global,
     host: &mut H,
@@ -68,9 +66,9 @@ fn serve_standing<H: Host>(
     request: Request,
 ) -> Result<Answer, AllocError>
     requires boot { request ≢ Request.Boot }
-    requires next { next_of state.old < 4294967295 }
+    requires next { next_in state.old < 4294967295 }
     requires on { StateImagesMatch state.old (H.view host.old) }
-    ensures next { OnOk result (next_of state.new ≤ next_of state.old + 1) }
+    ensures next { OnOk result (next_in state.new ≤ next_in state.old + 1) }
     ensures on { OnOk result (StateImagesMatch state.new (H.view host.new)) }
     ensures turned { IfOk result (λ a. TellsAll H.tells → HasTurned state.old state.new request a (H.view host.old) (H.view host.new)) }
     ensures stop { TellsAll H.tells → IsTurning state.old request (H.view host.old) (H.view host.new) }
@@ -100,9 +98,9 @@ pub fn respond<H: Host>(
     state: &mut State,
     request: Request,
 ) -> Result<Answer, AllocError>
-    requires next { next_of state.old < 4294967295 }
+    requires next { next_in state.old < 4294967295 }
     requires on { StateImagesMatch state.old (H.view host.old) }
-    ensures next { OnOk result (next_of state.new ≤ next_of state.old + 1) }
+    ensures next { OnOk result (next_in state.new ≤ next_in state.old + 1) }
     ensures on { OnOk result (StateImagesMatch state.new (H.view host.new)) }
     ensures turned { IfOk result (λ a. TellsAll H.tells → HasTurned state.old state.new request a (H.view host.old) (H.view host.new)) }
     ensures stop { TellsAll H.tells → IsTurning state.old request (H.view host.old) (H.view host.new) }

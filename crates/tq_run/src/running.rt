@@ -6,35 +6,34 @@ ghost use Rattle.tq_model.specs.MachineWithFaults.{Failures, rose_at};
 ghost use Rattle.tq_model.specs.declared.request.Request.{Request};
 ghost use Rattle.tq_model.specs.declared.request.Request.TheVariants as requests;
 ghost use Rattle.tq_host.specs.Within.{WithinAll};
-ghost use Rattle.tq_run.specs.Frame.{LeavesOthers};
+ghost use Rattle.tq_coord.specs.Frame.{LeavesOthers, device_count};
 ghost use Rattle.tq_run.specs.Stops.{IsCrashSafe, IsLeftAlone};
 ghost use Rattle.tq_run.specs.Turns.{Origin, origin_of, none_failed, RunsOver};
-ghost use Rattle.tq_run.specs.Standing.{next_of, StateImagesMatch, HasReached, HasRun, HasStarted};
+ghost use Rattle.tq_run.specs.Standing.{next_in, StateImagesMatch, HasReached, HasRun, HasStarted};
 ghost use Rattle.tq_model.specs.Site.{Site};
 ghost use Rattle.tq_model.specs.Grammar.{script_requests};
 ghost use Rattle.tq_model.specs.Reading.{site_found};
 ghost use Rattle.tq_run.specs.Counts.{NoneRose, HasCounts, HasRunCounts, itself, run_end_of_script, run_end_of_start};
 ghost use Rattle.tq_run.specs.Ending.{IsDone, IsUntouched, IsDamaged, FailsInLine0, IsComplete, status_for, trace_of};
-ghost use Rattle.tq_run.specs.Input.{IsRead, TakesWith};
-ghost use Rattle.tq_run.specs.Manager.{is_bootable};
+ghost use Rattle.tq_run.specs.Input.{TakesWith};
+ghost use Rattle.tq_coord.specs.Manager.{is_bootable};
 ghost use Rattle.tq_run.specs.Output.{TellsMore, HasBegun, AreAttached, TellsAttached, StaysAttached, KeepsInput};
-ghost use Rattle.tq_run.specs.Words.{device_count, device_word};
+ghost use Rattle.tq_run.specs.Words.{device_word};
 
-use crate::devices::readiness;
-use crate::manager::boot;
 use crate::script::read_script;
 use crate::serving::{give_answer, serve_lines};
 use crate::state::State;
 use crate::status::{RunEnd, ScriptEnd, StartEnd, Status};
 use crate::words::device_path;
 use std::alloc::Global;
+use tq_coord::Manager;
 use tq_host::Host;
 
 // No run takes more bytes.
 const MOST_INPUT: u64 = 4294967296;
 
 // Reads the script, at most `limit` bytes of it, and answers its lines.
-#[tactic(auto, using(crate::proofs::LineByLineLemmas::tells_on, crate::proofs::LineByLineLemmas::tells_none, crate::proofs::TakeLemmas::takes_then, crate::proofs::FrameLemmas::others_on, crate::proofs::AttachLemmas::stays_same, crate::proofs::AttachLemmas::stays_on))]
+#[tactic(auto, using(crate::proofs::LineByLineLemmas::tells_on, crate::proofs::LineByLineLemmas::tells_none, crate::proofs::TakeLemmas::takes_then, tq_coord::proofs::FrameLemmas::others_on, crate::proofs::AttachLemmas::stays_same, crate::proofs::AttachLemmas::stays_on))]
 fn answer_script<H: Host>(
     alloc: Global,
     host: &mut H,
@@ -43,7 +42,7 @@ fn answer_script<H: Host>(
 ) -> Result<(), ScriptEnd>
     requires limit { 0 < limit }
     requires most { limit ≤ 4294967296 }
-    requires first { next_of state.old ≡ 0 }
+    requires first { next_in state.old ≡ 0 }
     requires on { StateImagesMatch state.old (H.view host.old) }
     ensures left { OnOk result (H.tells.script → (H.view host.new).streams.script ≡ []) }
     ensures takes { H.tells.output → TakesWith (length (H.view host.old).streams.output) (H.view host.old).streams (H.view host.new).streams }
@@ -66,9 +65,9 @@ fn answer_script<H: Host>(
 }
 
 // Line 0: a boot of what device 0 stands for.
-#[tactic(auto, using(crate::proofs::LineByLineLemmas::tells_none, crate::proofs::LineByLineLemmas::tells_given, crate::proofs::LeftAloneLemmas::alone_attached, crate::proofs::LeftAloneLemmas::contradicts, crate::proofs::RunDeviceLemmas::was_bootable, crate::proofs::FrameLemmas::others_on, crate::proofs::FrameLemmas::others_attached))]
+#[tactic(auto, using(crate::proofs::LineByLineLemmas::tells_none, crate::proofs::LineByLineLemmas::tells_given, crate::proofs::LeftAloneLemmas::alone_attached, crate::proofs::LeftAloneLemmas::contradicts, crate::proofs::LeftAloneLemmas::was_bootable, tq_coord::proofs::FrameLemmas::others_on, crate::proofs::FrameLemmas::others_attached))]
 fn begin<H: Host>(alloc: Global, path: &str, host: &mut H) -> Result<State, StartEnd>
-    ensures first { IfOk result (λ state. next_of state ≡ 0) }
+    ensures first { IfOk result (λ state. next_in state ≡ 0) }
     ensures on { IfOk result (λ state. StateImagesMatch state (H.view host.new)) }
     ensures reached { IfOk result (λ state. TellsAll H.tells → (found : Site) → site_found device_count (H.view host.old).reads ≡ Some found
         → HasStarted found state (H.view host.old) (H.view host.new)) }
@@ -93,13 +92,13 @@ fn begin<H: Host>(alloc: Global, path: &str, host: &mut H) -> Result<State, Star
     ensures others { LeavesOthers (H.view host.old) (H.view host.new) }
 {
     host.attach(0, path)?;
-    let manager = boot(alloc, host)?;
-    give_answer(alloc, host, 0, &readiness(&manager))?;
+    let manager = Manager::boot(alloc, host)?;
+    give_answer(alloc, host, 0, &manager.readiness())?;
     Ok(State::Up(manager))
 }
 
 // A run: a boot, which is line 0, and the lines of the script, of which at most `limit` bytes are read.
-#[tactic(auto, using(crate::proofs::LineByLineLemmas::tells_on, crate::proofs::LeftAloneLemmas::contradicts, crate::proofs::TakeLemmas::none_taken, crate::proofs::FrameLemmas::others_on))]
+#[tactic(auto, using(crate::proofs::LineByLineLemmas::tells_on, crate::proofs::LeftAloneLemmas::contradicts, crate::proofs::TakeLemmas::none_taken, tq_coord::proofs::FrameLemmas::others_on))]
 fn attend<H: Host>(alloc: Global, path: &str, host: &mut H, limit: u64) -> Result<(), RunEnd>
     requires some { 0 < limit }
     requires most { limit ≤ 4294967296 }

@@ -1,8 +1,9 @@
-ghost use Rattle.std.specs.Prelude.{◌≡◌, ◌≢◌, ◌<◌, ◌≤◌, ◌+◌, ◌++◌, [], List, ℕ, length, IfOk, OnOk};
+ghost use Rattle.std.specs.Prelude.{◌≡◌, ◌<◌, ◌≤◌, ◌+◌, [], ℕ, length, IfOk, OnOk};
 ghost use Rattle.tq_host.specs.Within.{Ran};
-ghost use Rattle.tq_run.specs.Frame.{LeavesOthers};
+ghost use Rattle.tq_coord.specs.Frame.{LeavesOthers};
 ghost use Rattle.tq_run.specs.Counts.{HasCounts, run_end_of_read, run_end_of_take};
-ghost use Rattle.tq_run.specs.Stops.{HasNoNewImage, IsWaiting};
+ghost use Rattle.tq_coord.specs.Images.{HasNoNewImage};
+ghost use Rattle.tq_run.specs.Stops.{IsWaiting};
 ghost use Rattle.tq_run.specs.Input.{IsRead, TakesOnly, TakesWith, IsTakenSoFar};
 
 use crate::status::{ReadEnd, TakeEnd};

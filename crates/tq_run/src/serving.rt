@@ -5,29 +5,28 @@ ghost use Rattle.tq_host.specs.Within.{Ran};
 ghost use Rattle.tq_model.specs.declared.request.Request.{Request};
 ghost use Rattle.tq_model.specs.declared.request.CallRequest.{CallRequest};
 ghost use Rattle.tq_model.specs.MachineWithFaults.{Failures};
-ghost use Rattle.tq_model.specs.Step.{step};
+ghost use Rattle.tq_model.specs.Step.{step, space_step};
 ghost use Rattle.tq_model.specs.Text.{line_text};
 ghost use Rattle.tq_model.specs.Grammar.{line_request, script_requests};
-ghost use Rattle.tq_run.specs.Frame.{LeavesOthers};
+ghost use Rattle.tq_coord.specs.Frame.{LeavesOthers};
 ghost use Rattle.tq_run.specs.Counts.{HasCounts, HasRunCounts, run_end_of_line};
-ghost use Rattle.tq_run.specs.Stops.{ImagesMatch, HasNoNewImage};
+ghost use Rattle.tq_coord.specs.Images.{ImagesMatch, HasNoNewImage};
 ghost use Rattle.tq_run.specs.Turns.{Origin, RunsOver};
-ghost use Rattle.tq_run.specs.Standing.{next_of, StateImagesMatch, HasReached, HasRun};
-ghost use Rattle.tq_run.specs.Manager.{site_of};
-ghost use Rattle.tq_run.specs.Serving.{IsServed, ChangesOnce, CountsFailure};
+ghost use Rattle.tq_run.specs.Standing.{next_in, StateImagesMatch, HasReached, HasRun};
+ghost use Rattle.tq_coord.specs.Manager.{site_of, next_of};
+ghost use Rattle.tq_coord.specs.Serving.{IsServed, ChangesOnce};
+ghost use Rattle.tq_coord.specs.Counts.{CountsFailure};
 ghost use Rattle.tq_run.specs.Output.{TellsMore, StaysAttached, KeepsInput};
 ghost use Rattle.tq_model.specs.Site.{Site, durable};
 
 use crate::calls::serve_call;
-use crate::devices::serve_device;
 use crate::responding::respond;
-use crate::site::Manager;
-use crate::spaces::serve_space;
 use crate::state::State;
-use crate::status::{Failure, LineEnd};
+use crate::status::LineEnd;
 use std::alloc::Global;
+use tq_coord::{Failure, Manager, SpaceCall};
 use tq_host::Host;
-use tq_model::{Answer, Request};
+use tq_model::{Answer, QueueCreation, Request, SpaceRequest};
 use tq_script::{first_line, parse};
 
 // Gives the answer of a line.
@@ -54,6 +53,32 @@ pub fn give_answer<H: Host>(
     host.give(&text).map_err(|_| LineEnd::Output)
 }
 
+// Does what is asked of spaces and their queues.
+fn serve_space<H: Host>(
+    alloc: Global,
+    host: &mut H,
+    manager: &mut Manager,
+    request: &SpaceRequest,
+) -> Result<Answer, Failure>
+    requires next { next_of manager.old < 4294967295 }
+    requires on { ImagesMatch manager.old (H.view host.old) }
+    ensures served { IfOk result (IsServed (space_step (site_of manager.old) request.now) manager.old manager.new (H.view host.new)) }
+    ensures stop { ChangesOnce (space_step (site_of manager.old) request.now) manager.old (H.view host.old) (H.view host.new) }
+    ensures failed { CountsFailure result (H.view host.old).faults (H.view host.new).faults }
+    ensures idle { durable (space_step (site_of manager.old) request.now).site ≡ durable (site_of manager.old) → host.new ≡ host.old }
+{
+    match request {
+        SpaceRequest::Create(creation) => manager.create_space(alloc, host, creation),
+        SpaceRequest::CreateQueue(creation) => {
+            let call = SpaceCall::CreateQueue(QueueCreation {
+                space: creation.space,
+                queue: creation.queue,
+            });
+            manager.call_space(alloc, host, call)
+        }
+    }
+}
+
 // Does what a line asks for, but for a call.
 fn serve_other<H: Host>(
     alloc: Global,
@@ -63,7 +88,7 @@ fn serve_other<H: Host>(
 ) -> Result<Answer, Failure>
     requires boot { request.now ≢ Request.Boot }
     requires other { (call : CallRequest) → request.now ≢ Request.Call call }
-    requires next { manager.old.next < 4294967295 }
+    requires next { next_of manager.old < 4294967295 }
     requires on { ImagesMatch manager.old (H.view host.old) }
     ensures served { IfOk result (IsServed (step (site_of manager.old) request.now) manager.old manager.new (H.view host.new)) }
     ensures stop { ChangesOnce (step (site_of manager.old) request.now) manager.old (H.view host.old) (H.view host.new) }
@@ -74,7 +99,7 @@ fn serve_other<H: Host>(
         Request::Nothing => Ok(Answer::Done),
         Request::Bad(column) => Ok(Answer::Syntax(*column)),
         Request::TooLong => Ok(Answer::TooLong),
-        Request::Device(request) => serve_device(alloc, host, manager, request),
+        Request::Device(request) => manager.serve_device(alloc, host, request),
         Request::Space(request) => serve_space(alloc, host, manager, request),
         Request::Boot | Request::Call(_) => unreachable!(),
     }
@@ -88,7 +113,7 @@ pub fn serve<H: Host>(
     request: Request,
 ) -> Result<Answer, Failure>
     requires boot { request ≢ Request.Boot }
-    requires next { manager.old.next < 4294967295 }
+    requires next { next_of manager.old < 4294967295 }
     requires on { ImagesMatch manager.old (H.view host.old) }
     ensures served { IfOk result (IsServed (step (site_of manager.old) request) manager.old manager.new (H.view host.new)) }
     ensures stop { ChangesOnce (step (site_of manager.old) request) manager.old (H.view host.old) (H.view host.new) }
@@ -103,7 +128,7 @@ pub fn serve<H: Host>(
 }
 
 // Answers one line.
-#[tactic(auto, using(crate::proofs::FrameLemmas::others_on, crate::proofs::AttachLemmas::stays_same, crate::proofs::AttachLemmas::stays_beside, crate::proofs::AttachLemmas::stays_on))]
+#[tactic(auto, using(tq_coord::proofs::FrameLemmas::others_on, crate::proofs::AttachLemmas::stays_same, crate::proofs::AttachLemmas::stays_beside, crate::proofs::AttachLemmas::stays_on))]
 fn serve_line<H: Host>(
     alloc: Global,
     host: &mut H,
@@ -111,9 +136,9 @@ fn serve_line<H: Host>(
     number: u64,
     line: &[u8],
 ) -> Result<(), LineEnd>
-    requires next { next_of state.old < 4294967295 }
+    requires next { next_in state.old < 4294967295 }
     requires on { StateImagesMatch state.old (H.view host.old) }
-    ensures next { OnOk result (next_of state.new ≤ next_of state.old + 1) }
+    ensures next { OnOk result (next_in state.new ≤ next_in state.old + 1) }
     ensures on { OnOk result (StateImagesMatch state.new (H.view host.new)) }
     ensures reached { OnOk result (TellsAll H.tells → (o : Origin) (found : Site) (failed : Failures) (done : List Request) → number ≡ length done
         → HasReached o found failed done state.old (H.view host.old) → HasRun o found failed (done ++ line_request line.now ∷ []) state.new (H.view host.old) (H.view host.new)) }
@@ -139,7 +164,7 @@ pub fn serve_lines<H: Host>(
     state: &mut State,
     script: &[u8],
 ) -> Result<(), LineEnd>
-    requires numbers { next_of state.old + length script.now ≤ 4294967295 }
+    requires numbers { next_in state.old + length script.now ≤ 4294967295 }
     requires on { StateImagesMatch state.old (H.view host.old) }
     ensures reached { OnOk result (TellsAll H.tells → (o : Origin) (found : Site) (failed : Failures) (first : Request)
         → HasReached o found failed (first ∷ []) state.old (H.view host.old) → HasRun o found failed (first ∷ script_requests script.now) state.new (H.view host.old) (H.view host.new)) }

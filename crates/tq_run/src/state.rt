@@ -1,4 +1,4 @@
-use crate::site::Manager;
+use tq_coord::Manager;
 
 /// The state of a run.
 #[derive(Drop)]

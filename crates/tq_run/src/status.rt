@@ -1,10 +1,10 @@
-// How a run ends, and why a request has no answer.
+// How a run ends, and its parts.
 
 ghost use Rattle.std.specs.Prelude.{◌≡◌};
 
 use std::alloc::AllocError;
+use tq_coord::BootFailure;
 use tq_host::Failed;
-use tq_spacefile::FileError;
 
 /// How a run ended.
 #[derive(Clone, Copy, Debug, PartialEq, Eq)]
@@ -76,51 +76,6 @@ pub enum TakeEnd {
 pub enum LineEnd {
     Memory,
     Output,
-}
-
-/// Why a boot brings no site.
-#[derive(Clone, Copy, Debug, Drop, PartialEq, Eq)]
-pub enum BootFailure {
-    /// The device's bytes have no reading, or its epoch cannot be raised.
-    Damaged,
-    /// There is no memory.
-    Memory,
-    /// A device failed.
-    Device,
-}
-
-impl From<FileError> for BootFailure {
-    ghost use Rattle.tq_run.specs.Counts.{boot_failure_of};
-
-    ghost from_gives = { λ error e. e ≡ boot_failure_of error };
-
-    fn from(error: FileError) -> BootFailure {
-        match error {
-            FileError::Damaged => BootFailure::Damaged,
-            FileError::Device => BootFailure::Device,
-            FileError::NoMemory => BootFailure::Memory,
-        }
-    }
-}
-
-impl From<AllocError> for BootFailure {
-    ghost use Rattle.tq_run.specs.declared.status.BootFailure.TheVariants.{Memory};
-
-    ghost from_gives = { λ _ e. e ≡ Memory };
-
-    fn from(_no_memory: AllocError) -> BootFailure {
-        BootFailure::Memory
-    }
-}
-
-impl From<Failed> for BootFailure {
-    ghost use Rattle.tq_run.specs.declared.status.BootFailure.TheVariants.{Device};
-
-    ghost from_gives = { λ _ e. e ≡ Device };
-
-    fn from(_failed: Failed) -> BootFailure {
-        BootFailure::Device
-    }
 }
 
 impl From<Failed> for StartEnd {
@@ -247,35 +202,6 @@ impl From<AllocError> for TakeEnd {
 
     fn from(_no_memory: AllocError) -> TakeEnd {
         TakeEnd::Memory
-    }
-}
-
-/// Why a request has no answer.
-#[derive(Clone, Copy, Debug, Drop, PartialEq, Eq)]
-pub enum Failure {
-    /// There is no memory.
-    Memory,
-    /// A device failed.
-    Device,
-}
-
-impl From<AllocError> for Failure {
-    ghost use Rattle.tq_run.specs.declared.status.Failure.TheVariants.{Memory};
-
-    ghost from_gives = { λ _ e. e ≡ Memory };
-
-    fn from(_no_memory: AllocError) -> Failure {
-        Failure::Memory
-    }
-}
-
-impl From<Failed> for Failure {
-    ghost use Rattle.tq_run.specs.declared.status.Failure.TheVariants.{Device};
-
-    ghost from_gives = { λ _ e. e ≡ Device };
-
-    fn from(_failed: Failed) -> Failure {
-        Failure::Device
     }
 }
 

@@ -1,9 +1,9 @@
 -- The journal in an image, by the content of its log.
 use Rattle.std.proofs.Common.{◌≡◌, ◌<◌, ◌≤◌, ℕ, ◌+◌, ◌-◌, Bool, true, false, ◌&&◌, List, [], ◌∷◌, ◌++◌, length, take, drop, get_or, Option, None, Some, refl, sym, ◌∙◌, ap, subst, arith, leb-true, le-leb}
-use Rattle.std.specs.Prelude.{nat_le, codes, is_some, not, unwrap_or}
+use Rattle.std.specs.Prelude.{nat_le, ◌==◌, codes, is_some, not, unwrap_or}
 use Rattle.std.specs.Option.{option_map, option_and_then}
 use Rattle.std.specs.Str.{bytes_eq}
-use Rattle.std.proofs.lemmas.Bool.{and_parts, and_from, false_from_ne_true}
+use Rattle.std.proofs.lemmas.Bool.{and_parts, and_from, false_from_ne_true, eqb-false, not-true}
 use Rattle.std.proofs.lemmas.Bool.Decides.{nat_tests}
 use Rattle.std.proofs.lemmas.List.{drop-drop, drop-take, take-take}
 use Rattle.std.proofs.lemmas.Option.{none-some}
@@ -15,15 +15,15 @@ use Rattle.tq_extent.specs.Bytes.{owned_bytes, byte_address, reaches, ShareNone,
 use Rattle.tq_extent.proofs.BytesLemmas.{header-owned, header_reached, length-owned, address_reached, others_kept}
 use Rattle.tq_model.specs.Site.{header_clusters, numbers_from}
 use Rattle.tq_model.specs.DeviceForm.{Journal, Decision, RawJournal, raw_header, raw_journal, journal_base, journal_after, journal_read, header_bytes, page_bytes, journal_log_bytes, chosen, journal_a, journal_b}
-use Rattle.tq_model.specs.Reading.{journal_tests, has_no_decision, has_epochs, hold_all}
+use Rattle.tq_model.specs.Reading.{journal_tests, has_no_decision, has_empty_log, has_epochs, hold_all}
 use Rattle.tq_gate.specs.declared.layout.Layout.{Layout}
 use Rattle.tq_gate.specs.declared.log.GateLog.{GateLog}
-use Rattle.tq_gate.specs.Layout.{bytes_in, clusters_of, layout_end}
+use Rattle.tq_gate.specs.Layout.{bytes_in, clusters_of, first_area, layout_end}
 use Rattle.tq_gate.specs.Reading.{Content, content, content_on, area_of, base_in, log_in}
 use Rattle.tq_gate.specs.Log.{IsLog, IsSameBeside, layout_of}
 use Rattle.tq_gate.proofs.Contents.{holds_of, content_in, fits_some}
-use Rattle.tq_gate.proofs.Readings.{log_reading_is}
-use Rattle.tq_gate.proofs.OutsideLemmas.{IsOf, content_beside}
+use Rattle.tq_gate.proofs.Readings.{log_reading_is, reading_shut}
+use Rattle.tq_gate.proofs.OutsideLemmas.{IsOf, content_beside, content_elsewhere}
 use Rattle.tq_site.specs.Base.{SaysEpoch, journal_of}
 use Rattle.tq_site.specs.Journal.{HasEpoch, journal_layout, journal_in}
 
@@ -119,6 +119,24 @@ module _ (dev : ℕ) (image : List ℕ) (long : header_bytes ≤ length image) w
       let base = base_in layout (area_of layout bytes) bytes in
       let whole = fits_some (layout_end layout) (length bytes) (content_in layout (area_of layout bytes) bytes) (omega (arith, size)) in
       subst (λ (log : List ℕ). log_reading log ≡ None) log_is (none_read base (log_reading (log_in layout (area_of layout bytes) bytes)) (sym whole ∙ none))
+
+  pub first_area_is : get_or image 513 0 ≡ 0 → area_of layout bytes ≡ first_area layout
+  first_area_is first = area_is ∙ ap (λ (selector : ℕ). chosen selector journal_a journal_b) first
+
+  -- an empty log
+  abbrev pub first_content : Content
+  first_content = record { base = base_in layout (area_of layout bytes) bytes; payloads = [] }
+
+  pub first_read : has_empty_log (journal_in image) ≡ true → content_on layout image ≡ Some first_content
+  first_read empty =
+      let log = run_at (at_page + page_bytes) journal_log_bytes image in
+      let size : length bytes ≡ header_bytes = length-owned (numbers_from 0 header_clusters) image (header_reached image long) in
+      let base = base_in layout (area_of layout bytes) bytes in
+      let whole = fits_some (layout_end layout) (length bytes) (content_in layout (area_of layout bytes) bytes) (omega (arith, size)) in
+      whole
+      ∙ ap (λ (log : List ℕ). option_map (λ (payloads : List (List ℕ)). record { base = base; payloads = payloads }) (log_reading log)) log_is
+      ∙ ap (option_map (λ (payloads : List (List ℕ)). record { base = base; payloads = payloads }))
+      (reading_shut (length log) 0 log (eqb-false (get_or log 0 0) 79 (not-true (get_or log 0 0 == 79) empty)))
 
 -- What a base and a log say
 
@@ -258,6 +276,26 @@ epoch_beside epoch one old new apart step has =
 -- an image that has the same bytes in the header
 pub same_header : (epoch : ℕ) (old new : List ℕ) → header_bytes ≤ length new → owned_bytes (numbers_from 0 header_clusters) new ≡ owned_bytes (numbers_from 0 header_clusters) old → HasEpoch epoch old → HasEpoch epoch new
 same_header epoch old new long same has = same_epoch 0 epoch old new long (ap (content (journal_layout 0)) same) has
+
+-- A step that leaves the bytes before the last one of the header.
+pub same_below : (epoch : ℕ) (old new : List ℕ) → header_bytes ≤ length new
+    → ((i : ℕ) → i < header_bytes - 1 → get_or new i 0 ≡ get_or old i 0) → HasEpoch epoch old → HasEpoch epoch new
+same_below epoch old new long same has =
+    let layout = journal_layout 0 in
+    let kept : (i : ℕ) → i < header_bytes - 1 → get_or (bytes_in layout new) i 0 ≡ get_or (bytes_in layout old) i 0 =
+    λ i lt. owned_byte new i (omega (arith, lt)) ∙ same i lt ∙ sym (owned_byte old i (omega (arith, lt))) in
+    same_epoch 0 epoch old new long
+    (content_elsewhere layout (bytes_in layout old) (bytes_in layout new) (owned_long new long ∙ sym (owned_long old has.size))
+    (λ i from to. kept i (omega (arith, to))) (λ i selects. kept i (omega (arith, selects))))
+    has
+  where
+    owned_long : (image : List ℕ) → header_bytes ≤ length image → length (bytes_in (journal_layout 0) image) ≡ header_bytes
+    owned_long image long = length-owned (numbers_from 0 header_clusters) image (header_reached image long)
+
+    owned_byte : (image : List ℕ) (i : ℕ) → i < header_bytes → get_or (bytes_in (journal_layout 0) image) i 0 ≡ get_or image i 0
+    owned_byte image i lt =
+        let start : 0 + i ≡ i = omega arith in
+        ap (λ (b : List ℕ). get_or b i 0) (header-owned image) ∙ get_or-run_at 0 header_bytes image i 0 lt ∙ ap (λ (k : ℕ). get_or image k 0) start
 
 -- A step on the bytes of another owner.
 pub epoch_elsewhere : (epoch : ℕ) (clusters : List ℕ) (S : List ℕ → List ℕ → Type 0) (old new : List ℕ) → ShareNone (numbers_from 0 header_clusters) clusters → OnBytes clusters S old new → HasEpoch epoch old → HasEpoch epoch new

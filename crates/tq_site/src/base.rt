@@ -9,7 +9,7 @@ use crate::payloads::{Journal, decision_at, journal_after, number};
 use tq_field::put_u32;
 
 /// The bytes of a base.
-const BASE_BYTES: usize = 1024;
+pub(crate) const BASE_BYTES: usize = 1024;
 
 /// Its first bytes.
 const MARK: &[u8; 4] = b"TQSJ";

@@ -21,7 +21,7 @@ use tq_gate::{Areas, GateLog, Layout, Loaded};
 use tq_host::Host;
 
 /// Where the journal lies on a device.
-fn journal_layout(dev: u8) -> Layout
+pub(crate) fn journal_layout(dev: u8) -> Layout
     ensures { result ≡ journals.journal_layout dev }
 {
     Layout {

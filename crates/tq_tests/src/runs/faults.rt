@@ -443,12 +443,12 @@ fn each_failing_kind_has_its_status(rt: HostRuntime) -> Result<(), Fail> {
     let rows = [
         (CallKind::Attach, 0, Status::DeviceFault, "", 3),
         (CallKind::Length, 0, Status::DeviceFault, "", 3),
-        // the device, and then the space: its first page, the base and the pages of its log
+        // the device, and then the space: its first page, the base and the log
         (CallKind::Read, 0, Status::DeviceFault, "", 3),
         (CallKind::Read, 3, Status::DeviceFault, "", 3),
         (CallKind::Read, 4, Status::DeviceFault, "", 3),
-        (CallKind::Read, 66, Status::DeviceFault, "", 3),
-        (CallKind::Read, 67, Status::Done, both.as_str(), 4),
+        (CallKind::Read, 5, Status::DeviceFault, "", 3),
+        (CallKind::Read, 6, Status::Done, both.as_str(), 4),
         (CallKind::SetLength, 0, Status::Done, both.as_str(), 4),
         (CallKind::Write, 0, Status::DeviceFault, "", 3),
         (CallKind::Sync, 0, Status::DeviceFault, "", 3),

@@ -307,10 +307,10 @@ fn a_boot_finds_what_a_failed_line_left(rt: HostRuntime) -> Result<(), Fail> {
     let rows = [
         (13, 9, 1, false),
         (22, 1, 1, true),
-        (98, 3, 3, false),
-        (101, 1, 3, true),
-        (103, 3, 4, false),
-        (106, 1, 4, true),
+        (37, 3, 3, false),
+        (40, 1, 3, true),
+        (42, 3, 4, false),
+        (45, 1, 4, true),
     ];
     check_turns(&rt, alloc, &rows)?;
     Ok(())
@@ -321,12 +321,12 @@ fn a_later_boot_finds_what_a_failed_line_left(rt: HostRuntime) -> Result<(), Fai
     let alloc = rt.alloc();
     // an enqueue, and dequeues before and behind the last boot
     let rows = [
-        (183, 3, 7, false),
-        (186, 1, 7, true),
-        (188, 3, 8, false),
-        (191, 1, 8, true),
-        (268, 3, 11, false),
-        (271, 1, 11, true),
+        (61, 3, 7, false),
+        (64, 1, 7, true),
+        (66, 3, 8, false),
+        (69, 1, 8, true),
+        (85, 3, 11, false),
+        (88, 1, 11, true),
     ];
     check_turns(&rt, alloc, &rows)?;
     Ok(())
@@ -338,15 +338,15 @@ fn a_boot_finds_what_a_failed_boot_left(rt: HostRuntime) -> Result<(), Fail> {
     // the sync and the length, a read of the log, and the raise of the epoch in four calls
     let rows = [
         (24, 3, 2, false),
-        (60, 1, 2, false),
-        (92, 4, 2, false),
-        (96, 1, 2, true),
-        (109, 1, 6, false),
-        (177, 4, 6, false),
-        (181, 1, 6, true),
-        (194, 1, 10, false),
-        (262, 4, 10, false),
-        (266, 1, 10, true),
+        (29, 1, 2, false),
+        (31, 4, 2, false),
+        (35, 1, 2, true),
+        (48, 1, 6, false),
+        (55, 4, 6, false),
+        (59, 1, 6, true),
+        (72, 1, 10, false),
+        (79, 4, 10, false),
+        (83, 1, 10, true),
     ];
     check_turns(&rt, alloc, &rows)?;
     Ok(())
@@ -369,8 +369,8 @@ fn a_boot_fails_where_a_line_failed(rt: HostRuntime) -> Result<(), Fail> {
     let alloc = rt.alloc();
     let image = made(&rt, alloc, 64)?;
     // the first and the last call of the enqueue, and calls of the boot
-    for first in [103u64, 106] {
-        for behind in [3u64, 4, 40, 72, 73, 74, 75] {
+    for first in [42u64, 45] {
+        for behind in [3u64, 4, 8, 11, 12, 13, 14] {
             let second = first.wrapping_add(behind);
             let (status, text) = run_with(alloc, &image, &[first, second])?;
             assert!(rt; status == Status::Done, "at {second}");

@@ -1,4 +1,4 @@
-use Rattle.std.proofs.Common.{inl, ◌-◌, arith}
+use Rattle.std.proofs.Common.{inl, ◌-◌, ◌∙◌, arith}
 use Rattle.tq_host.specs.Calls.{IsPulled}
 use Rattle.tq_model.specs.DeviceForm.{header_bytes}
 use Rattle.tq_devtab.specs.Device.{IsBlank, IsBlankOr, new_part}
@@ -34,3 +34,12 @@ returns-clause-stop g c = λ blank.
     let all = settled_has (IsLaidOut dev site clusters) dev _ (g.met.H.Host.lawful c.lay_out.new.host) laid.settled laid.done in
     leads_on dev (IsPulled header_bytes) (IsLaidOut dev site clusters) (IsBlankOr dev (new_part dev site clusters)) _ _ _
     (λ a b is pulled. pulled_open dev site clusters a b is pulled) so_far all c.resize-2.ensures.stop
+
+pub returns-clause-first : goal.returns-clause-first
+returns-clause-first g c = on_ok c.resize-2.result c.resize-2.ensures.done (λ resized t.
+    let laid = c.in_ok-lay_out.ensures.done t in
+    let longer = resized t in
+    record {
+      table = longer.front 512 (omega (arith, laid.size)) ∙ laid.first.table;
+      journal = longer.front 513 (omega (arith, laid.size)) ∙ laid.first.journal;
+    })

@@ -9,7 +9,7 @@ pub returns-in_default-2-clause-damaged : goal.returns-in_default-2-clause-damag
 returns-in_default-2-clause-damaged c =
     let named = rw c.in-Some.is at c.in_ok-entries.ensures.entries in
     let each = rw c.in-Some.is at c.in_ok-entries.ensures.holds in
-    let broken = rw c.in_default-2.is at c.in_ok-owned.ensures.broken in
+    let broken = rw c.in_default-2.is at c.in_ok-_owned.ensures.broken in
     base_judged c.number-next.result c.args.clusters c.args.size c.args.base.now c.in-Some.entries.items (omega arith) c.number-next.ensures
     (sym c.is_headed.ensures ∙ c.if-not-is_headed.false) (sym c.is_counted.ensures ∙ c.if-not-is_counted.false) each named
     ∙ ap (go_together c.args.clusters) (sym c.as_slice.ensures.value) ∙ broken
@@ -18,7 +18,7 @@ pub returns-clause-holds : goal.returns-clause-holds
 returns-clause-holds c =
     let named = rw c.in-Some.is at c.in_ok-entries.ensures.entries in
     let each = rw c.in-Some.is at c.in_ok-entries.ensures.holds in
-    let holds = rw c.in-Some-2.is at c.in_ok-owned.ensures.holds in
+    let holds = rw c.in-Some-2.is at c.in_ok-_owned.ensures.holds in
     base_judged c.number-next.result c.args.clusters c.args.size c.args.base.now c.in-Some.entries.items (omega arith) c.number-next.ensures
     (sym c.is_headed.ensures ∙ c.if-not-is_headed.false) (sym c.is_counted.ensures ∙ c.if-not-is_counted.false) each named
     ∙ ap (go_together c.args.clusters) (sym c.as_slice.ensures.value) ∙ holds

@@ -1,4 +1,4 @@
-use Rattle.tq_run.proofs.DeviceStopLemmas.{stays}
+use Rattle.tq_coord.proofs.ForCallers.{stays}
 use Rattle.tq_run.proofs.calls.serve_call.Goals as goal
 
 pub returns-in-Err-clause-stop : goal.returns-in-Err-clause-stop

@@ -11,7 +11,7 @@ use Rattle.tq_run.proofs.LineByLineLemmas.{over_front, then_over, run_started, i
 use Rattle.tq_run.proofs.StatusLemmas.{line_0_ended, line_0_begun}
 use Rattle.tq_run.proofs.TakeLemmas.{taken_behind}
 use Rattle.tq_run.proofs.AttachLemmas.{attached_on}
-use Rattle.tq_run.proofs.FrameLemmas.{others_on}
+use Rattle.tq_coord.proofs.FrameLemmas.{others_on}
 use Rattle.tq_run.proofs.running.attend.Goals as goal
 
 not_ok : {T E : Type 0} (r : Result T E) (x : T) (end : E) → r ≡ Ok x → r ≡ Err end → ⊥

@@ -4,25 +4,26 @@ use Rattle.tq_host.specs.Calls.{IsGiven, IsGiving}
 use Rattle.tq_host.specs.Within.{Ran}
 use Rattle.tq_model.specs.Text.{line_text}
 use Rattle.tq_model.specs.declared.answer.Answer.{Answer}
-use Rattle.tq_run.specs.declared.status.BootFailure.{BootFailure}
-use Rattle.tq_run.specs.declared.status.BootFailure.TheVariants as boots
-use Rattle.tq_run.specs.Counts.{CountsBoot, start_end_of_boot}
-use Rattle.tq_run.specs.declared.site.Manager.{Manager}
-use Rattle.tq_run.specs.Manager.{is_bootable}
-use Rattle.tq_run.proofs.RunDeviceLemmas.{same_found}
+use Rattle.tq_coord.specs.declared.failure.BootFailure.{BootFailure}
+use Rattle.tq_coord.specs.declared.failure.BootFailure.TheVariants as boots
+use Rattle.tq_coord.specs.Counts.{CountsBoot}
+use Rattle.tq_run.specs.Counts.{start_end_of_boot}
+use Rattle.tq_coord.specs.declared.site.Manager.{Manager}
+use Rattle.tq_coord.specs.Manager.{is_bootable}
+use Rattle.tq_coord.proofs.ImageLemmas.{same_found, alone_on}
 use Rattle.tq_model.proofs.LineText.{length-line_text}
 use Rattle.tq_run.proofs.Line0Lemmas.{attach_over, boot_ended, first_over, first_started, calm_none, calm_given, begun_given}
 use Rattle.tq_run.proofs.CountLemmas.{at_err, err_is, same_Err, damaged_boot}
 use Rattle.tq_run.specs.Output.{AreAttached, TellsAttached}
-use Rattle.tq_run.proofs.LeftAloneLemmas.{alone_on, alone_attached}
+use Rattle.tq_run.proofs.LeftAloneLemmas.{alone_attached}
 use Rattle.tq_run.proofs.AttachLemmas.{attached_none, attached_given, one_attached}
 use Rattle.tq_model.specs.Site.{Site}
 use Rattle.tq_model.specs.Reading.{site_found}
 use Rattle.tq_model.specs.declared.request.Request.TheVariants.{Boot}
 use Rattle.tq_run.specs.Turns.{RunsOver, origin_of, none_failed}
-use Rattle.tq_run.specs.Words.{device_count}
-use Rattle.tq_run.specs.Frame.{LeavesOthers}
-use Rattle.tq_run.proofs.FrameLemmas.{others_on, others_attached}
+use Rattle.tq_coord.specs.Frame.{device_count, LeavesOthers}
+use Rattle.tq_coord.proofs.FrameLemmas.{others_on}
+use Rattle.tq_run.proofs.FrameLemmas.{others_attached}
 use Rattle.tq_run.proofs.running.begin.Given.{Over}
 use Rattle.tq_run.proofs.running.begin.Goals as goal
 use Rattle.tq_run.proofs.running.begin.Goals.{After-give_answer}

@@ -1,7 +1,7 @@
 use Rattle.std.proofs.Common.{ℕ, List, length, subst, refl, rules}
 use Rattle.tq_host.proofs.RunLemmas.{ran_start}
 use Rattle.tq_run.specs.Stops.{IsWaiting}
-use Rattle.tq_run.proofs.FrameLemmas.{others_here, others_on}
+use Rattle.tq_coord.proofs.FrameLemmas.{others_here, others_on}
 use Rattle.tq_run.proofs.PictureLemmas.{waits_on, no_new_on}
 use Rattle.tq_run.specs.Input.{TakesWith}
 use Rattle.tq_run.proofs.TakeLemmas.{takes_none, takes_on}

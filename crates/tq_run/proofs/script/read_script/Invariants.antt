@@ -1,8 +1,9 @@
 use Rattle.std.proofs.Common.{◌≡◌, ◌+◌, ◌++◌, length}
 use Rattle.tq_host.specs.Within.{Ran}
-use Rattle.tq_run.specs.Frame.{LeavesOthers}
+use Rattle.tq_coord.specs.Frame.{LeavesOthers}
 use Rattle.tq_run.specs.Counts.{IsQuiet}
-use Rattle.tq_run.specs.Stops.{HasNoNewImage, IsWaiting}
+use Rattle.tq_coord.specs.Images.{HasNoNewImage}
+use Rattle.tq_run.specs.Stops.{IsWaiting}
 use Rattle.tq_run.specs.Input.{TakesOnly, TakesWith}
 use Rattle.tq_run.proofs.script.read_script.Given as goal
 

@@ -4,7 +4,7 @@ use Rattle.tq_model.specs.Grammar.{script_lines, script_requests, line_request}
 use Rattle.tq_run.specs.Counts.{IsCalm}
 use Rattle.tq_run.proofs.CountLemmas.{calm, calm_on}
 use Rattle.tq_run.proofs.AttachLemmas.{stays_same, stays_on}
-use Rattle.tq_run.proofs.FrameLemmas.{others_here, others_on}
+use Rattle.tq_coord.proofs.FrameLemmas.{others_here, others_on}
 use Rattle.tq_run.proofs.LineByLineLemmas.{IsSoFar, so_far_first, so_far_next, ends_here, over_run, all_run, tells_on, tells_none, requests_first}
 use Rattle.tq_run.proofs.serving.serve_lines.Goals as goal
 

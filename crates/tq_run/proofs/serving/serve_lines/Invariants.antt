@@ -4,11 +4,11 @@ use Rattle.tq_model.specs.declared.request.Request.{Request}
 use Rattle.tq_model.specs.MachineWithFaults.{Failures}
 use Rattle.tq_model.specs.Site.{Site}
 use Rattle.tq_model.specs.Grammar.{script_requests}
-use Rattle.tq_run.specs.Frame.{LeavesOthers}
+use Rattle.tq_coord.specs.Frame.{LeavesOthers}
 use Rattle.tq_run.specs.Counts.{IsCalm}
 use Rattle.tq_run.specs.Output.{TellsMore, StaysAttached, KeepsInput}
 use Rattle.tq_run.specs.Turns.{Origin}
-use Rattle.tq_run.specs.Standing.{next_of, StateImagesMatch, HasReached}
+use Rattle.tq_run.specs.Standing.{next_in, StateImagesMatch, HasReached}
 use Rattle.tq_run.proofs.LineByLineLemmas.{IsSoFar}
 use Rattle.tq_run.proofs.serving.serve_lines.Given as goal
 
@@ -18,7 +18,7 @@ invariant-loop-line g l =
     let now = g.H.Host.view l.host in
     record {
       count : l.number + length l.rest ≤ length l.script + 1;
-      numbers : next_of l.state + length l.rest ≤ 4294967295;
+      numbers : next_in l.state + length l.rest ≤ 4294967295;
       on : StateImagesMatch l.state now;
       input : KeepsInput start now;
       calm : IsCalm start now;

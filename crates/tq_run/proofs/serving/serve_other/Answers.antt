@@ -1,4 +1,4 @@
-use Rattle.tq_run.proofs.DeviceStopLemmas.{stays}
+use Rattle.tq_coord.proofs.ForCallers.{stays}
 use Rattle.tq_run.proofs.serving.serve_other.Goals as goal
 
 pub returns-in-Nothing-clause-stop : goal.returns-in-Nothing-clause-stop

@@ -1,0 +1,12 @@
+pub mod ImageLemmas
+pub mod SpaceClusterLemmas
+pub mod FoundLemmas
+pub mod FrameLemmas
+pub mod LeftAloneLemmas
+pub mod ForCallers
+pub mod DeviceStopLemmas
+pub mod SpaceCreationLemmas
+pub mod BootStopLemmas
+pub mod PlanLemmas
+pub mod CallLemmas
+pub mod CallStepLemmas

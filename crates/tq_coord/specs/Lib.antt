@@ -1,0 +1,9 @@
+pub mod Counts
+pub mod Together
+pub mod Manager
+pub mod Frame
+pub mod Images
+pub mod Spaces
+pub mod SpaceCalls
+pub mod Calls
+pub mod Serving

@@ -1,0 +1,155 @@
+-- The header and the table of an image, by what was read of them.
+use Rattle.std.proofs.Common.{◌≡◌, ◌<◌, ◌≤◌, ◌&&◌, ℕ, ◌+◌, Bool, true, false, List, [], ◌++◌, length, get_or, map, Option, Some, None, refl, sym, ap, ◌∙◌, subst, arith}
+use Rattle.std.specs.Prelude.{nat_lt}
+use Rattle.std.specs.Option.{option_map}
+use Rattle.std.proofs.lemmas.Bool.{and_parts, and_from}
+use Rattle.std.proofs.lemmas.Bool.Decides.{nat_tests}
+use Rattle.std.proofs.lemmas.List.Folds.{list_all-append}
+use Rattle.std.proofs.lemmas.Option.{none-some}
+use Rattle.tq_field.specs.Places.{run_at}
+use Rattle.tq_field.specs.GatedLog.{log_reading}
+use Rattle.tq_field.proofs.Runs.{length-run_at, get_or-run_at}
+use Rattle.tq_host.specs.Calls.{HasBytesAt}
+use Rattle.tq_extent.specs.Bytes.{owned_bytes}
+use Rattle.tq_extent.proofs.BytesLemmas.{header-owned, header_reached, length-owned}
+use Rattle.tq_model.specs.Site.{header_clusters, numbers_from}
+use Rattle.tq_model.specs.DeviceForm.{raw_header, raw_table, header_bytes, table_bytes, table_a, table_b, chosen}
+use Rattle.tq_model.specs.Reading.{named_in, header_tests, table_tests, entries_tests, used_entries, hold_all}
+use Rattle.tq_gate.specs.declared.layout.Layout.{Layout}
+use Rattle.tq_gate.specs.Layout.{first_area, layout_end}
+use Rattle.tq_gate.specs.Reading.{Content, content_on, area_of, base_in, log_in}
+use Rattle.tq_gate.proofs.Contents.{holds_of, content_in, fits_some}
+use Rattle.tq_gate.proofs.Readings.{reading_shut}
+use Rattle.tq_devtab.specs.declared.header.Header.{Header}
+use Rattle.tq_devtab.specs.Table.{base_tests}
+use Rattle.tq_devtab.specs.Volume.{HasTable, table_layout, place_asked, is_volume, volume_tests}
+use Rattle.tq_devtab.specs.Header.{HasHeader, header_holds, part_with}
+use Rattle.tq_devtab.proofs.SameByteLemmas.{same_runs}
+use Rattle.tq_devtab.proofs.TableBaseLemmas.{judged, same_table}
+
+-- Where the table lies
+
+either_area : (selector : ℕ) → chosen selector table_a table_b ≤ table_b
+either_area selector = grind (arith, nat_tests)
+
+module _ (dev : ℕ) (image : List ℕ) (long : header_bytes ≤ length image) where
+  abbrev layout : Layout
+  layout = table_layout dev
+
+  abbrev bytes : List ℕ
+  bytes = owned_bytes (numbers_from 0 header_clusters) image
+
+  abbrev at_page : ℕ
+  at_page = (raw_header image).table
+
+  abbrev read : List ℕ
+  read = run_at at_page table_bytes image
+
+  pub read_within : at_page + table_bytes ≤ length image
+  read_within = let area = either_area (get_or image 512 0) in omega (arith, area, long)
+
+  pub read_long : length read ≡ table_bytes
+  read_long = length-run_at at_page table_bytes image read_within
+
+  pub read_stands : HasBytesAt at_page read image
+  read_stands i lt = sym (get_or-run_at at_page table_bytes image i 0 (omega (arith, lt, read_long)))
+
+  byte_is : (i : ℕ) → i < header_bytes → get_or bytes i 0 ≡ get_or image i 0
+  byte_is i lt =
+      let e : 0 + i ≡ i = omega arith in
+      ap (λ (b : List ℕ). get_or b i 0) (header-owned image) ∙ get_or-run_at 0 header_bytes image i 0 lt ∙ ap (λ (k : ℕ). get_or image k 0) e
+
+  bytes_long : length bytes ≡ header_bytes
+  bytes_long = length-owned (numbers_from 0 header_clusters) image (header_reached image long)
+
+  area_is : area_of layout bytes ≡ at_page
+  area_is = ap (λ (selector : ℕ). chosen selector table_a table_b) (byte_is 512 (omega arith))
+
+  pub first_area_is : get_or image 512 0 ≡ 0 → area_of layout bytes ≡ first_area layout
+  first_area_is first = area_is ∙ ap (λ (selector : ℕ). chosen selector table_a table_b) first
+
+  base_is : base_in layout (area_of layout bytes) bytes ≡ read
+  base_is =
+      let area = either_area (get_or image 512 0) in
+      ap (λ (area : ℕ). run_at area table_bytes bytes) area_is
+      ∙ same_runs at_page at_page table_bytes bytes image (omega (arith, area, bytes_long)) read_within
+      (λ j lt. byte_is (at_page + j) (omega (arith, area, lt)))
+
+  -- the content of its log, which has no pages
+  pub base_read : (k : Content) → content_on layout image ≡ Some k → k.base ≡ read
+  base_read k is = sym (holds_of layout k bytes is).base ∙ base_is
+
+  abbrev pub found : Content
+  found = record { base = base_in layout (area_of layout bytes) bytes; payloads = [] }
+
+  pub content_found : content_on layout image ≡ Some found
+  content_found =
+      let whole = fits_some (layout_end layout) (length bytes) (content_in layout (area_of layout bytes) bytes) (omega (arith, bytes_long)) in
+      let empty : log_reading (log_in layout (area_of layout bytes) bytes) ≡ Some [] = reading_shut 0 0 [] (omega arith) in
+      whole ∙ ap (option_map (λ (payloads : List (List ℕ)). record { base = base_in layout (area_of layout bytes) bytes; payloads = payloads })) empty
+
+  pub always_read : content_on layout image ≡ None → ⊥
+  always_read none = none-some found (sym none ∙ content_found)
+
+-- What is judged
+
+unfoldable rest_tests : List ℕ → Bool
+rest_tests image =
+    let h = raw_header image in
+    let t = raw_table h.table image in
+    hold_all (table_tests t ++ entries_tests t.next h.clusters (length image) (used_entries t))
+
+parted : (place : ℕ) (image : List ℕ) → hold_all (volume_tests place image) ≡ (hold_all (header_tests place (raw_header image)) && rest_tests image)
+unfolding rest_tests
+parted place image =
+    let h = raw_header image in
+    let t = raw_table h.table image in
+    list_all-append (λ test. test) (header_tests place h) (table_tests t ++ entries_tests t.next h.clusters (length image) (used_entries t))
+
+joined : (a b c : Bool) → (a && (b && c)) ≡ ((a && b) && c)
+joined true b c = refl
+joined false b c = refl
+
+module _ (place : Option ℕ) (image : List ℕ) where
+  volume_parts : is_volume place image ≡ (header_holds place image && rest_tests image)
+  volume_parts =
+      ap (λ b. nat_lt (place_asked place image) 8 && b) (parted (place_asked place image) image)
+      ∙ joined (nat_lt (place_asked place image) 8) (hold_all (header_tests (place_asked place image) (raw_header image))) (rest_tests image)
+
+  pub header_broken : header_holds place image ≡ false → is_volume place image ≡ false
+  header_broken broken = volume_parts ∙ ap (λ b. b && rest_tests image) broken
+
+-- with the header, and the base of the table
+module _ (place : Option ℕ) (h : Header) (image base : List ℕ) (long : header_bytes ≤ length image) (has : HasHeader place h image)
+    (same : base ≡ run_at (raw_header image).table table_bytes image) (bytes : (k : ℕ) → get_or base k 0 < 256) where
+  sized : length base ≡ table_bytes
+  sized = ap length same ∙ read_long 0 image long
+
+  stands : HasBytesAt (raw_header image).table base image
+  stands = subst (λ (b : List ℕ). HasBytesAt (raw_header image).table b image) (sym same) (read_stands 0 image long)
+
+  base_judged : rest_tests image ≡ hold_all (base_tests h.clusters (length image) base)
+  unfolding rest_tests
+  base_judged =
+      judged (raw_header image).table image base sized (read_within 0 image long) stands bytes (raw_header image).clusters (length image)
+      ∙ ap (λ (clusters : ℕ). hold_all (base_tests clusters (length image) base)) (sym has.clusters_are)
+
+  pub table_broken : hold_all (base_tests h.clusters (length image) base) ≡ false → is_volume place image ≡ false
+  table_broken broken = volume_parts place image ∙ ap (λ b. b && rest_tests image) has.holds ∙ base_judged ∙ broken
+
+  pub has_table : hold_all (base_tests h.clusters (length image) base) ≡ true → HasTable h.place (part_with h base) image
+  has_table holds =
+      let header = and_parts (nat_lt (place_asked place image) 8) (hold_all (header_tests (place_asked place image) (raw_header image))) has.holds in
+      let table = same_table (raw_header image).table image base sized (read_within 0 image long) stands bytes h.clusters (length image) holds in
+      record {
+        size = long;
+        tests = ap (λ (p : ℕ). hold_all (volume_tests p image)) has.place_is
+            ∙ parted (place_asked place image) image
+            ∙ and_from (hold_all (header_tests (place_asked place image) (raw_header image))) (rest_tests image) header.1 (base_judged ∙ holds);
+        part = λ i. record {
+          site = sym has.site_is i;
+          clusters = sym has.clusters_are i;
+          next_space = (table i).next;
+          entries = map named_in (table i).entries;
+        };
+      }

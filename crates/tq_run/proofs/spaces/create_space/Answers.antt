@@ -1,5 +1,0 @@
-use Rattle.tq_run.proofs.DeviceStopLemmas.{stays}
-use Rattle.tq_run.proofs.spaces.create_space.Goals as goal
-
-pub returns-in-Err-clause-stop : goal.returns-in-Err-clause-stop
-returns-in-Err-clause-stop g c = stays _ _ _ c.requires.on
