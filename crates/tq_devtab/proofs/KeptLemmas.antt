@@ -1,14 +1,10 @@
 -- What a device with a table has, and steps after which it has the table still.
 use Rattle.std.proofs.Common.{◌≡◌, ◌≢◌, ◌⊎◌, ◌<◌, ◌≤◌, inl, inr, ⊎_elim, ℕ, ◌+◌, ◌*◌, ◌&&◌, Bool, true, List, ◌++◌, length, get_or, map, Some, None, refl, sym, ap, ◌∙◌, subst, arith}
-use Rattle.std.specs.Prelude.{◌/◌, ◌==◌, nat_le, codes}
-use Rattle.std.specs.List.{list_all, sum_by}
-use Rattle.std.specs.Str.{bytes_eq}
-use Rattle.std.proofs.lemmas.Bool.{and_parts, and_from, leb-true}
-use Rattle.std.proofs.lemmas.Bool.Decides.{nat_tests}
+use Rattle.std.specs.Prelude.{◌/◌}
 use Rattle.tq_field.specs.Places.{number_at}
-use Rattle.tq_model.specs.Site.{header_clusters, numbers_from, last_space, least_clusters, most_clusters, table_entries}
-use Rattle.tq_model.specs.DeviceForm.{RawHeader, raw_header, raw_table, chosen, header_bytes, cluster_bytes, extents_start, table_bytes, table_a, table_b, journal_a}
-use Rattle.tq_model.specs.Reading.{NamedSpace, named_in, is_extent, used_entries, header_tests, table_tests, entries_tests, hold_all}
+use Rattle.tq_model.specs.Site.{header_clusters, numbers_from, most_clusters}
+use Rattle.tq_model.specs.DeviceForm.{RawHeader, raw_header, raw_table, chosen, header_bytes, cluster_bytes, table_bytes, table_a, table_b, journal_a}
+use Rattle.tq_model.specs.Reading.{NamedSpace, is_extent, header_tests, hold_all}
 use Rattle.tq_extent.specs.Bytes.{reaches, ShareNone, OnBytes}
 use Rattle.tq_extent.specs.Clusters.{clusters_of}
 use Rattle.tq_extent.proofs.BytesLemmas.{header_byte, header_byte_at, header_reached, reaches_extents}
@@ -22,80 +18,24 @@ use Rattle.tq_devtab.specs.declared.table.DeviceTable.{DeviceTable}
 use Rattle.tq_devtab.specs.Device.{IsLonger}
 use Rattle.tq_devtab.specs.InMemory.{IsTableOf, part_of}
 use Rattle.tq_devtab.specs.Table.{IsTable}
-use Rattle.tq_devtab.specs.TableParts.{is_headed}
 use Rattle.tq_devtab.specs.Volume.{TablePart, HasTable, table_layout}
-use Rattle.tq_devtab.proofs.DeviceLemmas.{split, join}
 use Rattle.tq_devtab.proofs.EntryLemmas.{entry_holds, entry_parts, table_parts}
 use Rattle.tq_devtab.proofs.FreeLemmas.{ends_by}
 use Rattle.tq_devtab.proofs.ListLemmas.{all-weaker}
 use Rattle.tq_devtab.proofs.SameByteLemmas.{same_runs, same_numbers}
-use Rattle.tq_devtab.proofs.MovedTableLemmas.{run_is, number_is, entries_are, sound_are}
+use Rattle.tq_devtab.proofs.SameTableLemmas.{SaysTable, says_same}
 use Rattle.tq_devtab.proofs.SpellingLemmas.{spellable}
-use Rattle.tq_devtab.proofs.SpeltTableLemmas.{spelt_at, tests_hold}
+use Rattle.tq_devtab.proofs.TableImageLemmas.{either_area, has_parts, parts_has}
 use Rattle.tq_devtab.proofs.TableLemmas.{all-present, extent-reached, table_longer}
-use Rattle.tq_devtab.proofs.TableReadLemmas.{is_sound, count_in}
 
 -- ---- a device that has a table
 
--- all tests by a header
-abbrev tests_by : ℕ → RawHeader → List ℕ → List Bool
-tests_by place h image =
-    let t = raw_table h.table image in
-    header_tests place h ++ table_tests t ++ entries_tests t.next h.clusters (length image) (used_entries t)
-
-abbrev part_by : RawHeader → List ℕ → TablePart
-part_by h image =
-    let t = raw_table h.table image in
-    record { site = h.site; clusters = h.clusters; next_space = t.next; entries = map named_in t.entries }
-
--- what the tests say
-record HasTests (place : ℕ) (h : RawHeader) (image : List ℕ) : Type 0 where
-  header : hold_all (header_tests place h) ≡ true
-  headed : is_headed (raw_table h.table image) ≡ true
-  sound : list_all is_sound (raw_table h.table image).entries ≡ true
-  ends : extents_start + 4 * sum_by count_in (raw_table h.table image).entries ≤ table_bytes
-  most : h.clusters ≤ most_clusters
-  table : IsTable (raw_table h.table image).next h.clusters (length image) (map named_in (raw_table h.table image).entries)
-
-has_tests : (place : ℕ) (h : RawHeader) (image : List ℕ) → hold_all (tests_by place h image) ≡ true → HasTests place h image
-has_tests place h image all =
-    let t = raw_table h.table image in
-    let entries = entries_tests t.next h.clusters (length image) (used_entries t) in
-    let a = split (header_tests place h ++ table_tests t) entries all in
-    let b = split (header_tests place h) (table_tests t) a.0 in
-    let mark = bytes_eq t.mark (codes "TQTB") in
-    let fits = nat_le 1 t.next && nat_le t.next last_space in
-    let sound = list_all is_sound t.entries in
-    let within = nat_le (extents_start + 4 * sum_by count_in t.entries) table_bytes in
-    let c = and_parts mark (fits && (sound && (within && true))) b.1 in
-    let d = and_parts fits (sound && (within && true)) c.1 in
-    let e = and_parts sound (within && true) d.1 in
-    let f = (and_parts within true e.1).0 in
-    let headed = and_from mark fits c.0 d.0 in
-    let site = nat_le 1 h.site in
-    let clusters = nat_le least_clusters h.clusters && nat_le h.clusters most_clusters in
-    let first = bytes_eq h.mark (codes "TQDEV001") in
-    let number = h.device == place in
-    let u = and_parts first (number && (site && (clusters && true))) b.0 in
-    let v = and_parts number (site && (clusters && true)) u.1 in
-    let w = and_parts site (clusters && true) v.1 in
-    let x = and_parts (nat_le least_clusters h.clusters) (nat_le h.clusters most_clusters) (and_parts clusters true w.1).0 in
-    record {
-      header = b.0;
-      headed = headed;
-      sound = e.0;
-      ends = leb-true (extents_start + 4 * sum_by count_in t.entries) table_bytes f;
-      most = leb-true h.clusters most_clusters x.1;
-      table = spelt_at t.next h.clusters (length image) h.table image (map named_in t.entries) refl refl headed (and_from sound within e.0 f) a.1;
-    }
-
 module _ (place : ℕ) (d : TablePart) (image : List ℕ) (has : HasTable place d image) where
   pub table_has : IsTable d.next_space d.clusters (length image) d.entries
-  table_has =
-      subst (λ (p : TablePart). IsTable p.next_space p.clusters (length image) p.entries) has.part (has_tests place (raw_header image) image has.tests).table
+  table_has = (has_parts place d image has).table
 
   pub few_clusters : d.clusters ≤ most_clusters
-  few_clusters = subst (λ (p : TablePart). p.clusters ≤ most_clusters) has.part (has_tests place (raw_header image) image has.tests).most
+  few_clusters = (has_parts place d image has).most
 
   -- it reaches to the end of its spaces' clusters
   pub table_reaches : (i : ℕ) (n : NamedSpace) → get_or d.entries i None ≡ Some n → reaches (clusters_of n.extents) image ≡ true
@@ -111,9 +51,6 @@ module _ (place : ℕ) (d : TablePart) (image : List ℕ) (has : HasTable place 
 pub record KeepsTable (old new : List ℕ) : Type 0 where
   pub longer : length old ≤ length new
   pub bytes : (at : ℕ) → at < journal_a → at ≢ 513 → get_or new at 0 ≡ get_or old at 0
-
-either_table : (selector : ℕ) → (table_a ≤ chosen selector table_a table_b) × (chosen selector table_a table_b ≤ table_b)
-either_table selector = grind (arith, nat_tests)
 
 module _ (old new : List ℕ) (long : header_bytes ≤ length old) (keeps : KeepsTable old new) where
   abbrev h : RawHeader
@@ -142,41 +79,27 @@ module _ (old new : List ℕ) (long : header_bytes ≤ length old) (keeps : Keep
         journal = (raw_header new).journal;
       }
 
-  table_same : (j : ℕ) → j < table_bytes → get_or old (h.table + j) 0 ≡ get_or new (h.table + j) 0
-  table_same j lt = let place = either_table (get_or old 512 0) in sym (keeps.bytes (h.table + j) (omega arith) (λ is. omega arith))
-
   pub table_kept : (place : ℕ) (d : TablePart) → HasTable place d old → HasTable place d new
   table_kept place d has =
-      let longer = keeps.longer in
       let at = h.table in
-      let bounds = either_table (get_or old 512 0) in
-      let was = has_tests place h old has.tests in
-      let fits_old : at + table_bytes ≤ length old = omega arith in
-      let fits_new : at + table_bytes ≤ length new = omega arith in
-      let t = raw_table at old in
-      let u = raw_table at new in
-      let names = (spellable t.next h.clusters (length old) (map named_in t.entries) was.most was.table).names in
-      let mark = run_is at at old new fits_old fits_new table_same 0 at at 4 (omega arith) (omega arith) (omega arith) in
-      let next = number_is at at old new fits_old fits_new table_same 4 (at + 4) (at + 4) 4 (omega arith) (omega arith) (omega arith) in
-      let entries =
-      entries_are at at old new fits_old fits_new table_same table_entries 32 extents_start (at + 32) (at + 32) (at + extents_start) (at + extents_start)
-      (omega arith) (omega arith) (omega arith) (omega arith) (omega arith) names was.ends in
-      let sound =
-      sound_are at at old new fits_old fits_new table_same table_entries 32 (at + 32) (at + 32) (at + extents_start) (at + extents_start)
-      (omega arith) (omega arith) (omega arith) in
-      let headed : is_headed u ≡ true =
-      (λ k. bytes_eq (sym mark k) (codes "TQTB") && (nat_le 1 (sym next k) && nat_le (sym next k) last_space)) ∙ was.headed in
-      let table = table_longer t.next h.clusters (length old) (length new) (map named_in t.entries) longer was.table in
-      let now = tests_hold t.next h.clusters (length new) at new (map named_in t.entries) next (sym entries) headed (sym sound ∙ was.sound) table in
-      let all = join (header_tests place h ++ table_tests u) (entries_tests u.next h.clusters (length new) (used_entries u))
-      (join (header_tests place h) (table_tests u) was.header now.0) now.1 in
-      record {
-        size = omega (arith, long);
-        tests = ap (λ (r : RawHeader). hold_all (tests_by place r new)) header_is ∙ all;
-        part =
-            ap (λ (r : RawHeader). part_by r new) header_is
-            ∙ (λ k. record { site = h.site; clusters = h.clusters; next_space = sym next k; entries = sym entries k }) ∙ has.part;
-      }
+      let bounds = either_area (get_or old 512 0) in
+      let was = has_parts place d old has in
+      let longer = keeps.longer in
+      let says =
+      says_same at at old new (omega (arith, bounds, long)) (omega (arith, bounds, long, longer))
+      (λ x y from to is.
+      let same : x ≡ y = omega arith in
+      ap (λ (i : ℕ). get_or old i 0) same ∙ sym (keeps.bytes y (omega (arith, bounds)) (λ selects. omega (arith, bounds))))
+      d.next_space d.entries (spellable d.next_space d.clusters (length old) d.entries was.most was.table) was.says in
+      parts_has place d new (omega (arith, long, longer)) (record {
+        header = ap (λ (r : RawHeader). hold_all (header_tests place r)) header_is ∙ was.header;
+        site = ap (λ (r : RawHeader). r.site) header_is ∙ was.site;
+        clusters = ap (λ (r : RawHeader). r.clusters) header_is ∙ was.clusters;
+        least = was.least;
+        most = was.most;
+        says = subst (λ (r : RawHeader). SaysTable d.next_space d.entries (raw_table r.table new)) (sym header_is) says;
+        table = table_longer d.next_space d.clusters (length old) (length new) d.entries longer was.table;
+      })
 
 -- and the log in memory is that of the image
 pub table_of_kept : (t : DeviceTable) (old new : List ℕ) → KeepsTable old new → IsTableOf t old → IsTableOf t new

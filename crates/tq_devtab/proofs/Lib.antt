@@ -14,7 +14,6 @@ pub mod SpaceLemmas
 pub mod NoTwoLemmas
 pub mod SpeltTableLemmas
 pub mod OwnerLemmas
-pub mod MovedTableLemmas
 pub mod KeptLemmas
 pub mod FreeLemmas
 pub mod ReserveLemmas
@@ -23,9 +22,7 @@ pub mod TableImageLemmas
 pub mod ReservedLemmas
 pub mod PlaceLemmas
 pub mod StoreLemmas
-pub mod LongerLemmas
 pub mod HeaderLemmas
-pub mod TableBaseLemmas
 pub mod LoadLemmas
 pub mod ErasingLemmas
 pub mod NewTableLemmas

@@ -1,18 +1,9 @@
--- Lists in which no two elements stand in a relation, and tests of all elements.
+-- Lists in which no two elements stand in a relation.
 use Rattle.std.proofs.Common.{◌≡◌, ◌&&◌, Bool, true, false, List, [], ◌∷◌, refl, ap, ◌∙◌}
 use Rattle.std.specs.Prelude.{◌||◌, not, map}
 use Rattle.std.specs.List.{list_all}
-use Rattle.std.proofs.lemmas.Bool.{and_parts, and_from}
 use Rattle.std.proofs.lemmas.List.Folds.{list_all-map}
 use Rattle.tq_model.specs.Reading.{no_two}
-
--- a test that follows from another one
-pub all-weaker : {X : Type 0} (test other : X → Bool) (xs : List X) → ((x : X) → test x ≡ true → other x ≡ true)
-    → list_all test xs ≡ true → list_all other xs ≡ true
-all-weaker test other [] follows all = refl
-all-weaker test other (x ∷ xs) follows all =
-    let parts = and_parts (test x) (list_all test xs) all in
-    and_from (other x) (list_all other xs) (follows x parts.0) (all-weaker test other xs follows parts.1)
 
 -- of elements that are made of others
 pub no_two-map : {X Y : Type 0} (related : Y → Y → Bool) (f : X → Y) (xs : List X) → no_two related (map f xs) ≡ no_two (λ a b. related (f a) (f b)) xs

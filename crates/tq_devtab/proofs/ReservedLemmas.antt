@@ -3,9 +3,7 @@ use Rattle.std.proofs.Common.{◌≡◌, ◌≤◌, ℕ, zero, suc, ◌+◌, ◌
 use Rattle.std.specs.Prelude.{nat_le, nat_lt}
 use Rattle.std.specs.List.{list_all, flat_map, sum_by}
 use Rattle.std.proofs.lemmas.Bool.{and_parts, leb-true, le-leb, ltb-true}
-use Rattle.std.proofs.lemmas.Grind.{common_steps}
 use Rattle.std.proofs.lemmas.List.Folds.{list_all-append}
-use Rattle.std.proofs.lemmas.List.Sums.{sum_by-append}
 use Rattle.tq_model.specs.declared.answer.Extent.{Extent}
 use Rattle.tq_model.specs.Site.{Volume, present, header_clusters, most_clusters, clusters_for, numbers_from, as_extents}
 use Rattle.tq_model.specs.DeviceForm.{cluster_bytes}
@@ -17,41 +15,8 @@ use Rattle.tq_extent.proofs.CountLemmas.{length-free_in, length-new, is_of-new, 
 use Rattle.tq_devtab.specs.Table.{IsTable, AreFree, extents_of, owned_by, with_entry}
 use Rattle.tq_devtab.specs.Volume.{TablePart, IsReserved, free_of, lowest_of, most_bytes}
 use Rattle.tq_devtab.proofs.ListLemmas.{all-weaker}
-use Rattle.tq_devtab.proofs.EntryLemmas.{table_parts}
-use Rattle.tq_devtab.proofs.TableLemmas.{as_extents-some, claim_holds, extents-hold, taken_free, with_space}
-
--- ---- how many clusters are free
-
-sum-extents : (spaces : List NamedSpace) → sum_by (λ (e : Extent). e.count) (flat_map (λ (n : NamedSpace). n.extents) spaces)
-    ≡ sum_by (λ (n : NamedSpace). sum_by (λ (e : Extent). e.count) n.extents) spaces
-sum-extents [] = refl
-sum-extents (n ∷ spaces) =
-    let rest = sum-extents spaces in
-    let own = sum_by-append (λ (e : Extent). e.count) n.extents (flat_map (λ (m : NamedSpace). m.extents) spaces) in
-    grind (arith, common_steps)
-
--- the clusters of the spaces of a table may be claimed
-pub table_claim : (next clusters size : ℕ) (entries : List (Option NamedSpace)) → header_clusters ≤ clusters → IsTable next clusters size entries
-    → can_claim (clusters_of (extents_of entries)) (new_clusters clusters) ≡ true
-table_claim next clusters size entries le table =
-    let h = table_parts next clusters size entries table in
-    claim_holds clusters size (extents_of entries) le (extents-hold next clusters size (present entries) h.each) h.apart
-
--- a device without spaces
-free-new : (clusters : ℕ) → header_clusters ≤ clusters → length (free_in (new_clusters clusters)) ≡ clusters - header_clusters
-free-new clusters le =
-    let v : Volume = record { clusters = clusters; next_space = 1; entries = [] } in
-    let count = free_count-is v (new_clusters clusters) le (is_of-new v le refl) refl in
-    omega (arith, count)
-
-pub free_count : (next size : ℕ) (d : TablePart) → header_clusters ≤ d.clusters → IsTable next d.clusters size d.entries
-    → length (free_in (owned_by d.clusters d.entries)) ≡ free_of d
-free_count next size d le table =
-    let extents = extents_of d.entries in
-    let count = length-free_in (clusters_of extents) (new_clusters d.clusters) (table_claim next d.clusters size d.entries le table) in
-    let all = free-new d.clusters le in
-    let taken = length-clusters_of extents ∙ sum-extents (present d.entries) in
-    omega (arith, count, all, taken)
+use Rattle.tq_devtab.proofs.OwnerLemmas.{free_count}
+use Rattle.tq_devtab.proofs.TableLemmas.{as_extents-some, taken_free, with_space}
 
 -- ---- where extents end
 
@@ -97,7 +62,7 @@ module _ (d : TablePart) (size : ℕ) (le : header_clusters ≤ d.clusters) (mos
       let given = ap clusters_of are ∙ clusters_of-as_extents lowest in
       let some = ap (list_all (λ (e : Extent). nat_le 1 e.count)) are ∙ as_extents-some lowest in
       let count = free_count d.next_space size d le table in
-      taken_free d.clusters wide need d.entries extents (omega (arith, count, enough)) are given (ends-reached wide extents some reach)
+      taken_free d.clusters wide need d.entries extents (omega (arith, count.0, enough)) are given (ends-reached wide extents some reach)
 
   -- a device with the most bytes does
   pub most_reached : (need : ℕ) (extents : List Extent) → extents ≡ as_extents (lowest_of need d) → need ≤ free_of d → ReachIn most_bytes (clusters_of extents)

@@ -11,7 +11,7 @@ use Rattle.tq_field.proofs.Runs.{length-run_at, get_or-run_at}
 use Rattle.tq_extent.specs.Bytes.{owned_bytes}
 use Rattle.tq_extent.proofs.BytesLemmas.{header-owned}
 use Rattle.tq_model.specs.Site.{header_clusters, least_clusters, most_clusters, numbers_from}
-use Rattle.tq_model.specs.DeviceForm.{raw_header, raw_table, header_bytes, table_bytes, chosen, table_a, table_b}
+use Rattle.tq_model.specs.DeviceForm.{RawHeader, raw_header, raw_table, header_bytes, table_bytes, chosen, table_a, table_b}
 use Rattle.tq_model.specs.Reading.{NamedSpace, header_tests, table_tests, entries_tests, used_entries, hold_all}
 use Rattle.tq_gate.specs.Reading.{Content, content_on, area_of}
 use Rattle.tq_gate.specs.Log.{replaced}
@@ -51,11 +51,11 @@ module _ (dev : ℕ) (image : List ℕ) where
       let here : 0 + i ≡ i = omega arith in
       ap (λ (b : List ℕ). get_or b i 0) (header-owned image) ∙ get_or-run_at 0 header_bytes image i 0 lt ∙ ap (λ (p : ℕ). get_or image p 0) here
 
-  area_is : area_of (table_layout dev) bytes ≡ at_table
+  pub area_is : area_of (table_layout dev) bytes ≡ at_table
   area_is = ap (λ (selector : ℕ). chosen selector table_a table_b) (byte_is 512 (omega arith))
 
   -- the base of its log is that of the area that the header chooses
-  base_read : (k : Content) → content_on (table_layout dev) image ≡ Some k → k.base ≡ run_at at_table table_bytes image
+  pub base_read : (k : Content) → content_on (table_layout dev) image ≡ Some k → k.base ≡ run_at at_table table_bytes image
   base_read k is =
       let within = either_area (get_or image 512 0) in
       sym (holds_of (table_layout dev) k bytes is).base
@@ -99,6 +99,16 @@ pub record HasParts (place : ℕ) (d : TablePart) (image : List ℕ) : Type 0 wh
   pub says : SaysTable d.next_space d.entries (raw_table (raw_header image).table image)
   pub table : IsTable d.next_space d.clusters (length image) d.entries
 
+pub clusters_within : (place : ℕ) (h : RawHeader) → hold_all (header_tests place h) ≡ true → (least_clusters ≤ h.clusters) × (h.clusters ≤ most_clusters)
+clusters_within place h holds =
+    let least = nat_le least_clusters h.clusters in
+    let most = nat_le h.clusters most_clusters in
+    let a = and_parts (bytes_eq h.mark (codes "TQDEV001")) ((h.device == place) && (nat_le 1 h.site && ((least && most) && true))) holds in
+    let b = and_parts (h.device == place) (nat_le 1 h.site && ((least && most) && true)) a.1 in
+    let c = and_parts (nat_le 1 h.site) ((least && most) && true) b.1 in
+    let d = and_parts least most (and_parts (least && most) true c.1).0 in
+    (leb-true least_clusters h.clusters d.0, leb-true h.clusters most_clusters d.1)
+
 parts_of : (place : ℕ) (image : List ℕ) → hold_all (volume_tests place image) ≡ true → HasParts place (table_part image) image
 parts_of place image tests =
     let h = raw_header image in
@@ -106,19 +116,14 @@ parts_of place image tests =
     let others = table_tests t ++ entries_tests t.next h.clusters (length image) (used_entries t) in
     let both =
     and_parts (hold_all (header_tests place h)) (hold_all others) (sym (list_all-append (λ test. test) (header_tests place h) others) ∙ tests) in
-    let least = nat_le least_clusters h.clusters in
-    let most = nat_le h.clusters most_clusters in
-    let a = and_parts (bytes_eq h.mark (codes "TQDEV001")) ((h.device == place) && (nat_le 1 h.site && ((least && most) && true))) both.0 in
-    let b = and_parts (h.device == place) (nat_le 1 h.site && ((least && most) && true)) a.1 in
-    let c = and_parts (nat_le 1 h.site) ((least && most) && true) b.1 in
-    let d = and_parts least most (and_parts (least && most) true c.1).0 in
+    let within = clusters_within place h both.0 in
     let table = holds_says h.table h.clusters (length image) image both.1 in
     record {
       header = both.0;
       site = refl;
       clusters = refl;
-      least = leb-true least_clusters h.clusters d.0;
-      most = leb-true h.clusters most_clusters d.1;
+      least = within.0;
+      most = within.1;
       says = table.0;
       table = table.1;
     }

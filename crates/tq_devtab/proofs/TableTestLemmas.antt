@@ -15,7 +15,8 @@ use Rattle.tq_extent.proofs.ClaimLemmas.{lies_within, can_claim-new}
 use Rattle.tq_devtab.specs.Table.{entries_view, extents_of, base_tests}
 use Rattle.tq_devtab.specs.TableParts.{is_headed, is_counted, is_numbered, has_clusters, entry_holds, each_holds, are_alike, go_together}
 use Rattle.tq_devtab.specs.declared.entry.TableEntry.{TableEntry}
-use Rattle.tq_devtab.proofs.NoTwoLemmas.{all-weaker, no_two-map, no_two-or}
+use Rattle.tq_devtab.proofs.ListLemmas.{all-weaker}
+use Rattle.tq_devtab.proofs.NoTwoLemmas.{no_two-map, no_two-or}
 
 -- ---- an entry by itself
 

@@ -99,32 +99,6 @@ with_new n d = record d { next_space = d.next_space + 1; entries = with_entry n 
 abbrev pub without : ℕ → TablePart → TablePart
 without ordinal d = record d { entries = without_entry ordinal d.entries }
 
--- the clusters to add where a space of so many pages gets so many more
-abbrev pub clusters_to_add : ℕ → ℕ → ℕ
-clusters_to_add pages more = clusters_for (pages + more) - clusters_for pages
-
--- a space of the table with so many pages more, in the lowest free clusters
-abbrev pub space_with_pages : ℕ → TablePart → NamedSpace → NamedSpace
-space_with_pages more d n = longer_space (n.pages + more) (as_extents (lowest_of (clusters_to_add n.pages more) d)) n
-
--- the table in which that space has so many pages more
-abbrev pub with_pages : ℕ → ℕ → TablePart → TablePart
-with_pages ordinal more d = record d { entries = changed_entry ordinal (λ n. Some (space_with_pages more d n)) d.entries }
-
--- the table with this space in the entry at that place
-abbrev pub with_space_at : ℕ → NamedSpace → TablePart → TablePart
-with_space_at index n d = record d { entries = set d.entries index (Some n) }
-
 -- The old table, or the new one and outside the table all that was read.
 abbrev pub IsTableOrNext : ℕ → ℕ → TablePart → TablePart → List ℕ → List ℕ → Type 0
 IsTableOrNext dev place d next read image = HasTable place d image ⊎ (HasTable place next image × IsSameButTable dev read image)
-
--- The same outside the table, with more bytes behind it, up to this size, or none.
-pub record IsLongerButTable (size : ℕ) (old new : List ℕ) : Type 0 where
-  pub longer : length old ≤ length new
-  pub most : length new ≤ max (length old) size
-  pub bytes : (i : ℕ) → i < length old → (i < table_a) ⊎ (journal_a ≤ i) → (i ≡ 512 → ⊥) → get_or new i 0 ≡ get_or old i 0
-
--- The old table, or the new one and outside the table all that was read, and maybe more behind it.
-abbrev pub IsTableOrLonger : ℕ → ℕ → TablePart → TablePart → List ℕ → List ℕ → Type 0
-IsTableOrLonger size place d next read image = HasTable place d image ⊎ (HasTable place next image × IsLongerButTable size read image)

@@ -10,20 +10,11 @@ ghost use Rattle.tq_devtab.specs.Table.{IsTable, entry_view, entries_view, raw_o
 ghost use Rattle.tq_devtab.specs.Spelling.{IsEntryAt, IsSameOutsideBoth, IsSpellable, IsZero, IsZeroBehind, IsZeroBeside, IsZeroBetween, are_short, is_short, names_byte};
 
 use crate::TableEntry;
+use crate::layout::{
+    ENTRIES_START, ENTRY_BYTES, EXTENT_BYTES, EXTENT_COUNT, EXTENTS_START, NAME, ORDINAL, PAGES,
+};
 use crate::spelling::{set_number, set_run, set_short};
 use tq_model::Extent;
-
-/// The byte at which the entries begin.
-const ENTRIES: usize = 32;
-
-/// The bytes of an entry.
-const ENTRY_BYTES: usize = 160;
-
-/// The byte at which the extents begin.
-const EXTENTS: usize = 2592;
-
-/// The bytes of an extent.
-const EXTENT_BYTES: usize = 4;
 
 /// Spells a table into the bytes of a base.
 pub(crate) fn encode_table(base: &mut [u8], next: u32, entries: &[Option<TableEntry>])
@@ -50,9 +41,9 @@ fn set_entries(base: &mut [u8], entries: &[Option<TableEntry>])
     ensures behind { IsZeroBehind (entries_view entries.now) base.new }
     ensures before { (i : ℕ) → i < 32 → get_or base.new i 0 ≡ get_or base.old i 0 }
 {
-    let mut extents = EXTENTS;
+    let mut extents = EXTENTS_START;
     for (i, entry) in entries.iter().enumerate() {
-        extents = set_entry(base, ENTRIES + ENTRY_BYTES * i, extents, entry);
+        extents = set_entry(base, ENTRIES_START + ENTRY_BYTES * i, extents, entry);
     }
 }
 
@@ -89,10 +80,14 @@ fn set_space(base: &mut [u8], at: usize, space: &TableEntry)
 {
     let name = space.name.as_bytes();
     set_run(base, at, &[1, name.len() as u8]);
-    set_run(base, at + 2, name);
-    set_number(base, at + 132, space.ordinal);
-    set_number(base, at + 136, space.pages);
-    set_number(base, at + 140, space.extents.as_slice().len() as u32);
+    set_run(base, at + NAME, name);
+    set_number(base, at + ORDINAL, space.ordinal);
+    set_number(base, at + PAGES, space.pages);
+    set_number(
+        base,
+        at + EXTENT_COUNT,
+        space.extents.as_slice().len() as u32,
+    );
 }
 
 /// Spells extents, one behind another from this byte on.

@@ -14,7 +14,6 @@ mod encoding;
 mod entry;
 mod erasing;
 mod error;
-mod extending;
 mod extents;
 mod growing;
 mod header;

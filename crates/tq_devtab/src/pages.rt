@@ -1,11 +1,9 @@
 //! The bytes with which the pages of a new device begin.
 
-ghost use Rattle.std.specs.Prelude.{◌≡◌, ◌+◌, ◌*◌, ◌<◌, ◌≤◌, ℕ, length, get_or, codes};
-ghost use Rattle.tq_field.specs.Places.{number_at};
-ghost use Rattle.tq_host.specs.Calls.{IsSameOutside};
+ghost use Rattle.std.specs.Prelude.{◌≡◌, ◌+◌, ◌*◌, ◌<◌, ◌≤◌, ℕ, length, get_or};
 ghost use Rattle.tq_devtab.specs.Made.{IsHeaderStart, IsBaseStart, IsJournalStart, made_byte};
 
-use tq_field::put_u32;
+use crate::spelling::set_number;
 
 /// These bytes, and zeros behind them.
 pub(crate) fn padded<const N: usize>(start: &[u8]) -> [u8; N]
@@ -15,15 +13,6 @@ pub(crate) fn padded<const N: usize>(start: &[u8]) -> [u8; N]
     let mut bytes = [0; N];
     bytes[..start.len()].copy_from_slice(start);
     bytes
-}
-
-/// Writes the number into the 4 bytes from this place on, which has to have them.
-fn set_number(bytes: &mut [u8], at: usize, n: u32)
-    requires { at + 4 ≤ length bytes.old }
-    ensures number { number_at at 4 bytes.new ≡ n }
-    ensures outside { IsSameOutside at 4 bytes.old bytes.new }
-{
-    let _fits = put_u32(bytes, at, n);
 }
 
 /// The first bytes of a device with this number.

@@ -21,6 +21,8 @@ mod logs;
 #[cfg(test)]
 mod machine;
 #[cfg(test)]
+mod records;
+#[cfg(test)]
 mod spaces;
 #[cfg(test)]
 mod texts;

@@ -25,7 +25,8 @@ use Rattle.tq_devtab.specs.Header.{HasHeader, part_with}
 use Rattle.tq_devtab.specs.InMemory.{IsTableOf, part_of, place_of}
 use Rattle.tq_devtab.specs.Table.{base_tests}
 use Rattle.tq_devtab.specs.Volume.{TablePart, HasTable, is_volume, table_layout}
-use Rattle.tq_devtab.proofs.LoadLemmas.{always_read, base_read, has_table, table_broken}
+use Rattle.tq_devtab.proofs.LoadLemmas.{always_read, has_table, table_broken}
+use Rattle.tq_devtab.proofs.TableImageLemmas.{base_read}
 use Rattle.tq_devtab.proofs.table.DeviceTable.load.Goals as goal
 
 -- Errors
@@ -71,15 +72,15 @@ module _ (place : Option ℕ) (dev : ℕ) (h : Header) (image : List ℕ) (long 
     (k : Content) (there : layout_of log ≡ table_layout dev) (is : IsLog log k image) (size : ℕ) (sized : size ≡ length image)
     (bytes : (i : ℕ) → get_or k.base i 0 < 256) where
   same_base : k.base ≡ run_at (raw_header image).table table_bytes image
-  same_base = base_read dev image long k (subst (λ (l : Layout). content_on l image ≡ Some k) there is.is.reads)
+  same_base = base_read dev image k (subst (λ (l : Layout). content_on l image ≡ Some k) there is.is.reads)
 
   broken_is : hold_all (base_tests h.clusters size k.base) ≡ false → is_volume place image ≡ false
-  broken_is broken = table_broken place h image k.base long has same_base bytes (subst (λ n. hold_all (base_tests h.clusters n k.base) ≡ false) sized broken)
+  broken_is broken = table_broken place h image k.base long has same_base (subst (λ n. hold_all (base_tests h.clusters n k.base) ≡ false) sized broken)
 
   table_is : (t : DeviceTable) → hold_all (base_tests h.clusters size k.base) ≡ true → part_of t ≡ part_with h k.base
       → place_of t ≡ h.place → t.log ≡ log → IsTableOf t image
   table_is t holds part number same =
-      let table = has_table place h image k.base long has same_base bytes (subst (λ n. hold_all (base_tests h.clusters n k.base) ≡ true) sized holds) in
+      let table = has_table place h image k.base long has same_base (subst (λ n. hold_all (base_tests h.clusters n k.base) ≡ true) sized holds) in
       record {
         has = subst (λ p. HasTable p (part_of t) image) (sym number) (subst (λ (d : TablePart). HasTable h.place d image) (sym part) table);
         holds = k;

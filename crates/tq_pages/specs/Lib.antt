@@ -1,0 +1,5 @@
+pub mod FreePages
+pub mod Store
+pub mod Content
+pub mod Buffer
+pub mod Adopting

@@ -1,0 +1,11 @@
+pub mod SlotTable
+pub mod SlotSets
+pub mod MessageSlots
+pub mod KeptEntries
+pub mod SpaceOrder
+pub mod QueueSlots
+pub mod SlotsAfter
+pub mod SlotsLaw
+pub mod Fields
+pub mod RecordForm
+pub mod MessageForm
