@@ -167,30 +167,3 @@ fn a_raise_that_fails_leaves_the_old_epoch_or_the_next(rt: HostRuntime) -> Resul
     }
     Ok(())
 }
-
-// The base of the next epoch lies in the other area, with zeros behind it.
-#[test]
-fn epochs_take_turns(rt: HostRuntime) -> Result<(), Fail> {
-    let alloc = rt.alloc();
-    let old = device(alloc, &[b'O'; 1024], b"O\0\0\0\x05\x01\0\0\0\x09")?;
-    let mut first = old;
-    put(&mut first, AREA_A, b"TQSJ\0\0\0\x05\0");
-    let (raised, second) = raise_failing(alloc, &first, 99)?;
-    assert!(rt; raised && second.len() == 131_072);
-    assert_eq!(rt; &second[AREA_B..AREA_B + 8], b"TQSJ\0\0\0\x0A".as_slice());
-    assert!(rt;
-        second[AREA_B + 8..AREA_B + 1025]
-            .iter()
-            .all(|byte| *byte == 0)
-    );
-    let (raised, third) = raise_failing(alloc, &second, 99)?;
-    assert!(rt; raised && third.len() == 131_072);
-    assert_eq!(rt; &third[AREA_A..AREA_A + 8], b"TQSJ\0\0\0\x0B".as_slice());
-    assert!(rt;
-        third[AREA_A + 8..AREA_A + 1025]
-            .iter()
-            .all(|byte| *byte == 0)
-    );
-    assert_eq!(rt; epoch_of(alloc, &third), Ok(11));
-    Ok(())
-}
