@@ -1,5 +1,5 @@
 -- What a call on a space and its log comes to, and what a stop leaves within it.
-use Rattle.std.proofs.Common.{◌≡◌, inl, inr, ⊎_elim, ◌<◌, ◌≤◌, ℕ, ◌+◌, List, [], ◌∷◌, length, drop, Option, Some, None, Bool, sym, ◌∙◌, ap, subst, arith, add-zero}
+use Rattle.std.proofs.Common.{◌≡◌, inl, inr, ⊎_elim, ◌<◌, ◌≤◌, ℕ, ◌+◌, List, [], ◌∷◌, length, drop, Option, Some, None, Bool, refl, sym, ◌∙◌, ap, subst, arith, add-zero}
 use Rattle.std.specs.Prelude.{if◌then◌else◌}
 use Rattle.std.specs.Option.{option_and_then, option_map}
 use Rattle.std.proofs.lemmas.Option.{same_Some}
@@ -33,14 +33,22 @@ use Rattle.tq_spacefile.specs.declared.file.SpaceFile.{SpaceFile}
 use Rattle.tq_spacefile.specs.File.{place_in, clusters_in, held_in, logged_in, HasSpace, IsAnyStep, IsSameButSpace, room_for}
 use Rattle.tq_spacefile.specs.Place.{page_of}
 use Rattle.tq_spacefile.specs.Commit.{IsOldOrDone}
-use Rattle.tq_device.proofs.CreationLemmas.{any_steps}
 use Rattle.tq_coord.specs.declared.calls.Reply.{Reply}
 use Rattle.tq_coord.specs.declared.planning.Planned.TheVariants as planned
+use Rattle.tq_coord.specs.declared.planning.SpaceCall.{SpaceCall}
+use Rattle.tq_coord.specs.declared.planning.SpaceCall.TheVariants.{Enqueue, Dequeue, CreateQueue}
+use Rattle.tq_coord.specs.SpaceCalls.{outcome_of, numbers_asked}
 use Rattle.tq_coord.specs.Calls.{logged_outcome_in, IsPlanFor, IsPlanned, IsCalled, HasOutcome, IsSameOrChanged, AreBehind}
 
 -- any steps on the space
 pub space_steps : (clusters : List ℕ) → IsSteps (IsSameButSpace clusters)
-space_steps clusters = on_bytes_steps clusters IsAnyStep any_steps
+space_steps clusters = on_bytes_steps clusters IsAnyStep (record { none = λ c. tt; both = λ a b c first second. tt })
+
+-- the numbers that are asked for
+pub numbers_are : (call : SpaceCall) (s : Space) → numbers_asked call ≡ (outcome_of call s).numbers
+numbers_are (Enqueue ask) s = refl
+numbers_are (Dequeue ask) s = refl
+numbers_are (CreateQueue c) s = refl
 
 -- ---- the room of the log
 

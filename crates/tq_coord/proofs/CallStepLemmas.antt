@@ -1,145 +1,110 @@
--- A call on the space of a device: the machine's site after it, and what the device has then.
-use Rattle.std.proofs.Common.{◌≡◌, inl, inr, ⊎_elim, ◌≤◌, ℕ, ◌+◌, List, Option, Some, None, Bool, true, false, cond, get_or, refl, sym, ◌∙◌, ap, subst, arith}
-use Rattle.std.specs.Prelude.{if◌then◌else◌, is_some}
-use Rattle.std.specs.Str.{bytes_eq}
-use Rattle.tq_host.specs.View.{View, Images}
+-- A call on a space of the manager: the machine's step, the images within it, and the manager after it.
+use Rattle.std.proofs.Common.{◌≡◌, inl, inr, ⊎_elim, ◌≤◌, ℕ, ◌+◌, List, [], ◌∷◌, Option, Some, None, get_or, set, map, refl, sym, ◌∙◌, ap, subst, arith}
+use Rattle.std.specs.Prelude.{option_map}
+use Rattle.std.proofs.Math.ListN.{get_or-map}
+use Rattle.std.proofs.lemmas.List.{get_or-set_same, set-get_or}
+use Rattle.tq_host.specs.View.{Told, View, Images, IsLawful}
+use Rattle.tq_host.specs.Within.{KeepsRest, Within, WithinAll}
 use Rattle.tq_host.proofs.AllDevices.{of_one}
-use Rattle.tq_host.specs.Within.{Within, WithinAll}
+use Rattle.tq_extent.specs.Clusters.{clusters_of}
 use Rattle.tq_types.specs.declared.identifiers.Arrival.{Arrival}
 use Rattle.tq_model.specs.Space.{Space}
 use Rattle.tq_model.specs.Moves.{IndexedSpace, space_of}
-use Rattle.tq_model.specs.Parts.{IsPart}
 use Rattle.tq_model.specs.Plain.{IsNewer}
-use Rattle.tq_model.specs.Site.{Site, Volume, SpaceOnDevice, volume_of, space_named, has_name, with_space, durable}
-use Rattle.tq_model.specs.Step.{Outcome, SpaceOutcome, LoggedOutcome, through_log, with_outcome, take_numbers, on_space_found, on_space, next_arrival}
-use Rattle.tq_device.specs.declared.content.DeviceContent.{DeviceContent}
-use Rattle.tq_device.specs.declared.content.NamedSpace.{NamedSpace}
-use Rattle.tq_device.proofs.ForCallers.{some_epoch}
-use Rattle.tq_device.specs.Content.{HasContent, part_of}
-use Rattle.tq_spacefile.specs.declared.place.SpacePlace.{SpacePlace}
+use Rattle.tq_model.specs.Reading.{NamedSpace}
+use Rattle.tq_model.specs.Site.{Site, Volume, SpaceOnDevice, volume_of, durable, durable_space}
+use Rattle.tq_model.specs.Step.{Outcome, LoggedOutcome, through_log, with_outcome, take_numbers, on_space_found, on_space, next_arrival}
+use Rattle.tq_devtab.specs.declared.table.DeviceTable.{DeviceTable}
+use Rattle.tq_devtab.specs.InMemory.{part_of, IsTableOf}
+use Rattle.tq_devtab.specs.Volume.{TablePart}
+use Rattle.tq_site.specs.declared.journal.SiteJournal.{SiteJournal}
+use Rattle.tq_site.specs.InMemory.{IsJournalOf}
 use Rattle.tq_spacefile.specs.declared.file.SpaceFile.{SpaceFile}
+use Rattle.tq_spacefile.specs.declared.place.SpacePlace.{SpacePlace}
 use Rattle.tq_spacefile.specs.File.{place_in, clusters_in, held_in, logged_in, HasSpace, IsFile, AreFile, IsSameButSpace}
-use Rattle.tq_coord.specs.declared.site.Manager.{Manager}
-use Rattle.tq_coord.specs.Manager.{site_of, site_with, site_at, placed_of, placed_in, IsSpaceOn, IsFileOn, IsDeviceOn, IsContentOn, ImageMatches}
-use Rattle.tq_coord.specs.Together.{place_of, space_clusters, IsInPlace, IsFileOf, IsTogether}
-use Rattle.tq_coord.specs.Images.{ImagesHave, AreEither, ImagesMatch}
-use Rattle.tq_coord.specs.declared.planning.SpaceCall.{SpaceCall}
-use Rattle.tq_coord.specs.declared.planning.SpaceCall.TheVariants.{Enqueue, Dequeue, CreateQueue}
 use Rattle.tq_coord.specs.declared.calls.Reply.{Reply}
-use Rattle.tq_coord.specs.SpaceCalls.{outcome_of, space_name, numbers_asked}
+use Rattle.tq_coord.specs.declared.planning.SpaceCall.{SpaceCall}
+use Rattle.tq_coord.specs.declared.site.Disk.{Disk}
+use Rattle.tq_coord.specs.declared.site.Manager.{Manager}
 use Rattle.tq_coord.specs.Calls.{outcome_in, logged_outcome_in, IsCalled, IsSameOrChanged, HasOutcome, AreBehind}
-use Rattle.tq_coord.specs.Serving.{IsServed}
-use Rattle.tq_coord.proofs.FoundLemmas.{part_of_stands, image_at, has_there}
-use Rattle.tq_coord.proofs.SpaceClusterLemmas.{stands_beside}
+use Rattle.tq_coord.specs.Images.{ImagesHave, AreEither, ImagesMatch}
+use Rattle.tq_coord.specs.Manager.{site_of, site_with, epoch_of, files_of, volume_in, volume_with, placed_of, all_placed, HasDisk, HasDiskOrIsBlank, HasFile}
+use Rattle.tq_coord.specs.Manager.{HasFileOf, HasFiles}
+use Rattle.tq_coord.specs.Serving.{IsServed, ChangesOnce}
+use Rattle.tq_coord.specs.SpaceCalls.{outcome_of, space_name}
+use Rattle.tq_coord.specs.Together.{place_of, IsFileOf, IsInPlace}
+use Rattle.tq_coord.proofs.FoundEntryLemmas.{space_placed, site_by}
+use Rattle.tq_coord.proofs.FrameLemmas.{others_of_call, others_told}
+use Rattle.tq_coord.proofs.ImageLemmas.{found_have}
+use Rattle.tq_coord.proofs.MatchLemmas.{disk_on}
+use Rattle.tq_coord.proofs.NamedEntryLemmas.{IsNamedAt, space_found, placed_there, space_changed}
+use Rattle.tq_coord.proofs.OneEntryLemmas.{placed_put}
+use Rattle.tq_coord.proofs.OneFileLemmas.{some_within, table_stays, journal_stays, files_with, found_with}
 
--- ---- the space that is named
+-- ---- the bytes that are taken of a space's log
 
--- The site has a space of that name: its device's content, its entry in the table, and its file.
-pub record IsNamedIn (m : Manager) (name : List ℕ) (f : SpaceFile) : Type 0 where
-  pub d : DeviceContent
-  pub n : NamedSpace
-  pub content : m.content ≡ Some d
-  pub named : d.named ≡ Some n
-  pub same : bytes_eq n.name name ≡ true
-
-some_if : (b : Bool) (p : SpaceOnDevice) → is_some (cond b (Some p) None) ≡ true → b ≡ true
-some_if true p some = refl
-some_if false p some = cc
-
-pub named_in : (m : Manager) (name : List ℕ) (f : SpaceFile) → m.file ≡ Some f → is_some (space_named name (site_of m)) ≡ true → IsNamedIn m name f
-named_in m name f file some = by_content m.content refl (subst (λ (o : Option SpaceFile). is_some (space_named name (site_with m.content o m.next)) ≡ true) file some)
-  where
-    by_table : (d : DeviceContent) (named : Option NamedSpace) → m.content ≡ Some d → d.named ≡ named → is_some (space_named name (site_at d (placed_in named (Some f)) m.next)) ≡ true → IsNamedIn m name f
-    by_table d None content is some = absurd (let none : false ≡ true = some in cc)
-    by_table d (Some n) content is some = record { d = d; n = n; content = content; named = is; same = some_if (bytes_eq n.name name) (placed_of n f) some }
-
-    by_content : (content : Option DeviceContent) → m.content ≡ content → is_some (space_named name (site_with content (Some f) m.next)) ≡ true → IsNamedIn m name f
-    by_content None is some = absurd (let none : false ≡ true = some in cc)
-    by_content (Some d) is some = by_table d d.named is refl some
-
--- ---- what the manager holds
-
--- a file at the same place
-pub together_with : (content : Option DeviceContent) (f f' : SpaceFile) → place_in f' ≡ place_in f → clusters_in f' ≡ clusters_in f → IsTogether content (Some f) → IsTogether content (Some f')
-together_with None f f' same_place same_clusters is = is
-together_with (Some d) f f' same_place same_clusters is = on d.named is
-  where
-    on : (named : Option NamedSpace) → IsFileOf d named (Some f) → IsFileOf d named (Some f')
-    on None is = is
-    on (Some n) is = record { is = same_place ∙ is.is; clusters = same_clusters ∙ is.clusters }
-
-module _ (m : Manager) (d : DeviceContent) (n : NamedSpace) (f : SpaceFile) (content : m.content ≡ Some d) (named : d.named ≡ Some n) (file : m.file ≡ Some f) where
-  pub site_known : site_of m ≡ site_at d (Some (placed_of n f)) m.next
-  site_known =
-      ap (λ (o : Option DeviceContent). site_with o m.file m.next) content ∙ ap (λ (o : Option SpaceFile). site_with (Some d) o m.next) file
-      ∙ ap (λ (o : Option NamedSpace). site_at d (placed_in o (Some f)) m.next) named
-
-  place_known : IsInPlace (place_of d n) f
-  place_known =
-      subst (λ (o : Option NamedSpace). IsFileOf d o (Some f)) named
-      (subst (λ (o : Option SpaceFile). IsTogether (Some d) o) file (subst (λ (o : Option DeviceContent). IsTogether o m.file) content m.fit))
-
-  device_on : (image : List ℕ) → ImageMatches m image → IsDeviceOn d (Some f) m.next image
-  device_on image on =
-      subst (λ (o : Option SpaceFile). IsContentOn (Some d) o m.next image) file (subst (λ (o : Option DeviceContent). IsContentOn o m.file m.next image) content on)
-
-  pub stands_on : (image : List ℕ) → ImageMatches m image → HasContent d image
-  stands_on image on = (device_on image on).stands
-
-  pub space_on : (image : List ℕ) → ImageMatches m image → IsSpaceOn d n f m.next image
-  space_on image on = subst (λ (o : Option NamedSpace). IsFileOn d o (Some f) m.next image) named (device_on image on).space
-
-  pub on_from : (image : List ℕ) → HasContent d image → IsSpaceOn d n f m.next image → ImageMatches m image
-  on_from image stands space =
-      subst (λ (o : Option DeviceContent). IsContentOn o m.file m.next image) (sym content)
-      (subst (λ (o : Option SpaceFile). IsContentOn (Some d) o m.next image) (sym file)
-      (record { stands = stands; space = subst (λ (o : Option NamedSpace). IsFileOn d o (Some f) m.next image) (sym named) space }))
-
--- ---- the machine's step
-
-module _ (d : DeviceContent) (p : SpaceOnDevice) (next : ℕ) (name : List ℕ) (same : has_name name p ≡ true) where
-  named_at : space_named name (site_at d (Some p) next) ≡ Some p
-  named_at = ap (λ (b : Bool). cond b (Some p) None) same
-
-  changed_at : (change : SpaceOnDevice → SpaceOnDevice) → with_space name change (site_at d (Some p) next) ≡ site_at d (Some (change p)) next
-  changed_at change = ap (λ (b : Bool). site_at d (Some (if b then change p else p)) next) same
-
--- a call on the one space of a device
-on_space_at : (d : DeviceContent) (p : SpaceOnDevice) (next : ℕ) (name : List ℕ) (call : Space → SpaceOutcome) → has_name name p ≡ true
-    → on_space name call (site_at d (Some p) next)
-    ≡ (let o = through_log p.pages p.logged p.space (call p.space) in
-    let outcome : Outcome = record { site = site_at d (Some (with_outcome o p)) (next + o.numbers); answer = o.answer } in outcome)
-on_space_at d p next name call same =
-    let o : LoggedOutcome = through_log p.pages p.logged p.space (call p.space) in
-    ap (on_space_found name call (site_at d (Some p) next)) (named_at d p next name same)
-    ∙ ap (λ (x : Site). let outcome : Outcome = record { site = take_numbers o.numbers x; answer = o.answer } in outcome) (changed_at d p next name same (with_outcome o))
-
--- the numbers that are asked for
-pub numbers_are : (call : SpaceCall) (s : Space) → numbers_asked call ≡ (outcome_of call s).numbers
-numbers_are (Enqueue ask) s = refl
-numbers_are (Dequeue ask) s = refl
-numbers_are (CreateQueue c) s = refl
-
--- the bytes that are taken of the log of a device's first space
 abbrev logged_of : Option SpaceOnDevice → ℕ
 logged_of None = 0
 logged_of (Some p) = p.logged
 
-abbrev logged_on : Option Volume → ℕ
-logged_on None = 0
-logged_on (Some v) = logged_of (get_or v.entries 0 None)
+abbrev entries_of : Option Volume → List (Option SpaceOnDevice)
+entries_of None = []
+entries_of (Some v) = v.entries
 
-abbrev first_logged : Site → ℕ
-first_logged s = logged_on (volume_of s 0)
+abbrev logged_at : ℕ → Site → ℕ
+logged_at at s = logged_of (get_or (entries_of (volume_of s 0)) at None)
 
--- ---- a call on the space of the manager
+durable_logged : (at : ℕ) (entries : List (Option SpaceOnDevice)) → logged_of (get_or (map (option_map durable_space) entries) at None) ≡ logged_of
+    (get_or entries at None)
+durable_logged at entries = ap logged_of (get_or-map (option_map durable_space) entries at None) ∙ same (get_or entries at None)
+  where
+    same : (o : Option SpaceOnDevice) → logged_of (option_map durable_space o) ≡ logged_of o
+    same None = refl
+    same (Some p) = refl
 
-module _ (m : Manager) (call : SpaceCall) (f : SpaceFile) (file : m.file ≡ Some f) (at : IsNamedIn m (space_name call) f) (next : Arrival) (next_is : next ≡ next_arrival (site_of m)) where
-  abbrev d : DeviceContent
-  d = at.d
+-- ---- a device in memory with one file changed
 
-  abbrev n : NamedSpace
-  n = at.n
+abbrev site_parts : DeviceTable → SiteJournal → List (Option SpaceFile) → ℕ → Site
+site_parts t j files next =
+    record {
+      identity = Some (record { site = (part_of t).site; epoch = j.epoch });
+      next = next;
+      clock = 0;
+      devices = Some
+          (volume_with (part_of t) files) ∷ [];
+    }
+
+-- it has the same table and journal, and these files
+pub record IsDiskWith (d : Disk) (spaces : List (Option SpaceFile)) (d' : Disk) : Type 0 where
+  pub table : d'.table ≡ d.table
+  pub journal : d'.journal ≡ d.journal
+  pub files : files_of d' ≡ spaces
+
+site_with_files : (d d' : Disk) (files : List (Option SpaceFile)) (next : ℕ) → IsDiskWith d files d' → site_with
+    (Some d') next ≡ site_parts d.table d.journal files next
+site_with_files d d' files next same = λ i. site_parts (same.table i) (same.journal i) (same.files i) next
+
+disk_with_files : (d d' : Disk) (files : List (Option SpaceFile)) (next : ℕ) (image : List ℕ) → IsDiskWith d files d' → IsTableOf d.table image
+    → IsJournalOf d.journal image
+    → HasFiles (part_of d.table) (epoch_of d) next files image → HasDisk d' next image
+disk_with_files d d' files next image same table journal has = record {
+  table = subst (λ (t : DeviceTable). IsTableOf t image) (sym same.table) table;
+  journal = subst (λ (j : SiteJournal). IsJournalOf j image) (sym same.journal) journal;
+  files = subst (λ (t : DeviceTable). HasFiles (part_of t) (epoch_of d') next (files_of d') image) (sym same.table)
+      (subst (λ (j : SiteJournal). HasFiles (part_of d.table) j.epoch next (files_of d') image) (sym same.journal)
+      (subst (λ (l : List (Option SpaceFile)). HasFiles (part_of d.table) (epoch_of d) next l image) (sym same.files) has));
+}
+
+-- ---- a call on the space of this entry
+
+module _ (m : Manager) (d : Disk) (there : m.disk ≡ Some d) (call : SpaceCall) (at : ℕ) (n : NamedSpace) (f : SpaceFile)
+    (is : IsNamedAt d (space_name call) at n f)
+    (next : Arrival) (next_is : next ≡ next_arrival (site_of m)) where
+  abbrev t : TablePart
+  t = part_of d.table
+
+  abbrev v : Volume
+  v = volume_in d
 
   -- what it comes to, and as the machine's step
   abbrev o : LoggedOutcome
@@ -148,93 +113,177 @@ module _ (m : Manager) (call : SpaceCall) (f : SpaceFile) (file : m.file ≡ Som
   abbrev step : Outcome
   step = on_space (space_name call) (outcome_of call) (site_of m)
 
-  known : site_of m ≡ site_at d (Some (placed_of n f)) m.next
-  known = site_known m d n f at.content at.named file
+  site_known : site_of m ≡ site_with (Some d) m.next
+  site_known = ap (λ (x : Option Disk). site_with x m.next) there
 
-  in_place : IsInPlace (place_of d n) f
-  in_place = place_known m d n f at.content at.named file
+  in_place : IsInPlace 0 t n f
+  in_place =
+      subst (λ (x : Option NamedSpace). IsFileOf 0 t x (Some f)) is.named
+      (subst (λ (x : Option SpaceFile). IsFileOf 0 t (get_or t.entries at None) x) is.file (d.fit.each at))
 
-  place : place_in f ≡ place_of d n
-  place = in_place.is
+  pub dev_is : (place_in f).dev ≡ 0
+  dev_is = ap (λ (p : SpacePlace). p.dev) in_place.is
 
-  arrival_is : next ≡ record { epoch = d.epoch; number = m.next }
-  arrival_is = next_is ∙ ap next_arrival known
+  arrival_is : next ≡ record { epoch = epoch_of d; number = m.next }
+  arrival_is = next_is ∙ ap next_arrival site_known
 
-  epoch_is : next.epoch ≡ d.epoch
+  epoch_is : next.epoch ≡ epoch_of d
   epoch_is = ap (λ (x : Arrival). x.epoch) arrival_is
 
-  -- each image has the file, and the arrival is newer than all of it
-  pub behind : (v : View) → ImagesMatch m v → AreBehind f next v
-  behind v on image may =
-      let is = on image (subst (λ (p : SpacePlace). v.may_leave p.dev image) place may) in
-      let space = space_on m d n f at.content at.named file image is in
-      record {
-        file = subst (λ (k : ℕ). IsFile f k image) (sym epoch_is) space.file;
-        some = subst (λ (k : ℕ). 1 ≤ k) (sym epoch_is) (some_epoch d image (stands_on m d n f at.content at.named file image is));
-        newer = subst (λ (x : Arrival). IsNewer x.epoch x.number (held_in f)) (sym arrival_is) space.newer;
-      }
+  has_file : (image : List ℕ) → HasDisk d m.next image → HasFile t (epoch_of d) m.next n f image
+  has_file image has =
+      subst (λ (x : Option NamedSpace). HasFileOf t (epoch_of d) m.next x (Some f) image) is.named
+      (subst (λ (x : Option SpaceFile). HasFileOf t (epoch_of d) m.next (get_or t.entries at None) x image) is.file (has.files at))
 
-  -- a call on the space leaves what else the device has
-  stands_after : (old new : List ℕ) → ImageMatches m old → IsSameButSpace (clusters_in f) old new → HasContent d new
-  stands_after old new on same =
-      stands_beside n.pages (clusters_in f) in_place.clusters d old new same (stands_on m d n f at.content at.named file old on)
+  -- each image has the file, and the arrival is newer than all of it
+  pub behind : (a : View) → ImagesMatch m a → AreBehind f next a
+  behind a on image may =
+      let has = has_file image (disk_on m d there a on image (subst (λ k. a.may_leave k image) dev_is may)) in
+      record {
+        file = subst (λ k. IsFile f k image) (sym epoch_is) has.file;
+        some = subst (λ k. 1 ≤ k) (sym epoch_is) d.journal.some;
+        newer = subst (λ (x : Arrival). IsNewer x.epoch x.number (held_in f)) (sym arrival_is) has.newer;
+      }
 
   -- the step, of a place and an arrival
   abbrev after : SpacePlace → Arrival → Outcome
   after p x =
       let out = through_log p.pages (logged_in f) (space_of (held_in f)) (outcome_in f call) in
-      record { site = site_at d (Some (with_outcome out (placed_of n f))) (x.number + out.numbers); answer = out.answer }
+      record {
+        site = take_numbers out.numbers (record
+            (site_with (Some d) x.number) {
+              devices = Some (record v {
+                entries = set v.entries at
+                    (Some (with_outcome out (placed_of n f)));
+              }) ∷ [];
+            });
+        answer = out.answer;
+      }
 
   made : step ≡ after (place_in f) next
   made =
-      ap (on_space (space_name call) (outcome_of call)) known ∙ on_space_at d (placed_of n f) m.next (space_name call) (outcome_of call) at.same
-      ∙ λ i. after (sym place i) (sym arrival_is i)
+      let name = space_name call in
+      let out = through_log n.pages (logged_in f) (space_of (held_in f)) (outcome_in f call) in
+      ap (on_space name (outcome_of call)) site_known
+      ∙ ap (on_space_found name (outcome_of call) (site_with (Some d) m.next)) (space_found d name at n f is m.next)
+      ∙ ap (λ (x : Site). let outcome : Outcome = record { site = take_numbers out.numbers x; answer = out.answer } in outcome)
+      (space_changed d name at n f is m.next (with_outcome out))
+      ∙ λ i. after (sym in_place.is i) (sym arrival_is i)
 
   -- a step that changes nothing that lasts takes nothing of the log
   pub takes_nothing : durable step.site ≡ durable (site_of m) → o.logged ≡ logged_in f
-  takes_nothing same = ap (λ (x : Outcome). first_logged (durable x.site)) (sym made) ∙ ap first_logged same ∙ ap (λ (x : Site). first_logged (durable x)) known
+  takes_nothing same =
+      let placed = Some (with_outcome o (placed_of n f)) in
+      let within = some_within v.entries at (placed_of n f) (placed_there d (space_name call) at n f is m.next) in
+      sym (ap (λ (x : Outcome). logged_at at (durable x.site)) made ∙ durable_logged at (set v.entries at placed) ∙ ap logged_of
+      (get_or-set_same v.entries at placed None within))
+      ∙ ap (logged_at at) same ∙ ap (λ (s : Site). logged_at at (durable s)) site_known ∙ durable_logged at v.entries
+      ∙ ap logged_of (placed_there d (space_name call) at n f is m.next)
+
+  at_place : (held : IndexedSpace) (logged : ℕ) (c : List ℕ) → HasSpace (place_in f) (clusters_in f) next.epoch held logged c
+      → HasSpace (place_of 0 t n) (clusters_of n.extents) (epoch_of d) held logged c
+  at_place held logged c has =
+      subst (λ (p : SpacePlace). HasSpace p (clusters_of n.extents) (epoch_of d) held logged c) in_place.is
+      (subst (λ (l : List ℕ). HasSpace (place_in f) l (epoch_of d) held logged c) in_place.clusters
+      (subst (λ k. HasSpace (place_in f) (clusters_in f) k held logged c) epoch_is has))
+
+  on_own : (b c : List ℕ) → IsSameButSpace (clusters_in f) b c → IsSameButSpace (clusters_of n.extents) b c
+  on_own b c same = subst (λ (l : List ℕ). IsSameButSpace l b c) in_place.clusters same
+
+  module _ (b : List ℕ) (images : Images) (has : HasDisk d m.next b) (same : IsSameButSpace (clusters_in f) b (images 0)) where
+    unchanged : HasSpace (place_in f) (clusters_in f) next.epoch (held_in f) (logged_in f) (images 0) → ImagesHave (site_of m) images
+    unchanged space =
+        let stays = ap (set v.entries at) (sym (placed_there d (space_name call) at n f is m.next)) ∙ set-get_or v.entries at None in
+        subst (λ (s : Site). ImagesHave s images) (sym site_known)
+        (found_have images (site_by t (epoch_of d) v.entries)
+        (found_with d at n is.named b (images 0) (on_own b (images 0) same) m.next has images refl (held_in f) (logged_in f)
+        (at_place (held_in f) (logged_in f) (images 0) space)
+        ∙ ap (λ (entries : List (Option SpaceOnDevice)). Some (site_by t (epoch_of d) entries)) stays))
+
+    changed : HasOutcome f next.epoch o (images 0) → ImagesHave step.site images
+    changed new =
+        let entries = set v.entries at (Some (space_placed n new.held o.logged)) in
+        subst (λ (s : Site). ImagesHave s images)
+        (ap (λ (x : Space). take_numbers o.numbers (record
+        (site_with (Some d) next.number) {
+          devices = Some (record v {
+            entries = set v.entries at
+                (Some (record (placed_of n f) { logged = o.logged; space = x }));
+          }) ∷ [];
+        })) new.space
+        ∙ sym (ap (λ (x : Outcome). x.site) made))
+        (found_have images (site_by t (epoch_of d) entries)
+        (found_with d at n is.named b (images 0) (on_own b (images 0) same) m.next has images refl new.held o.logged
+        (at_place new.held o.logged (images 0) new.has)))
 
   -- the images within it
-  pub within_call : (a b : View) → ImagesMatch m a → Within 0 (IsSameButSpace (clusters_in f)) (IsSameOrChanged f next o) a b → WithinAll (AreEither (site_of m) step.site) a b
-  within_call a b on within = of_one 0 (IsSameButSpace (clusters_in f)) (IsSameOrChanged f next o) (AreEither (site_of m) step.site) a b (λ i images was same has. either i images (on i was) same has) within
-    where
-      at_place : (held : IndexedSpace) (logged : ℕ) (c : List ℕ) → HasSpace (place_in f) (clusters_in f) next.epoch held logged c → HasSpace (place_of d n) (space_clusters n.pages) d.epoch held logged c
-      at_place held logged c has =
-          subst (λ (k : ℕ). HasSpace (place_of d n) (space_clusters n.pages) k held logged c) epoch_is (has_there (place_of d n) f next.epoch held logged c in_place has)
+  pub within_call : (a b : View) → ImagesMatch m a → Within 0 (IsSameButSpace (clusters_in f)) (IsSameOrChanged f next o) a b → WithinAll
+      (AreEither (site_of m) step.site) a b
+  within_call a b on within =
+      of_one 0 (IsSameButSpace (clusters_in f)) (IsSameOrChanged f next o) (AreEither (site_of m) step.site) a b
+      (λ i images was same has. ⊎_elim (λ old. inl (unchanged i images (disk_on m d there a on i was) same old))
+      (λ new. inr (changed i images (disk_on m d there a on i was) same new)) has) within
 
-      changed : (images : Images) → IsPart (part_of d) (images 0) → HasOutcome f next.epoch o (images 0) → ImagesHave step.site images
-      changed images part new =
-          subst (λ (s : Site). ImagesHave s images)
-          (ap (λ (x : Space). site_at d (Some (record (placed_of n f) { logged = o.logged; space = x })) (next.number + o.numbers)) new.space ∙ sym (ap (λ (x : Outcome). x.site) made))
-          (image_at d n new.held o.logged (next.number + o.numbers) images part at.named new.lasts (at_place new.held o.logged (images 0) new.has))
-
-      either : (i : List ℕ) (images : Images) → ImageMatches m i → IsSameButSpace (clusters_in f) i (images 0) → IsSameOrChanged f next o (images 0) → AreEither (site_of m) step.site images
-      either i images on same has =
-          let part : IsPart (part_of d) (images 0) = part_of_stands d (images 0) (stands_after i (images 0) on same) in
-          ⊎_elim
-          (λ old. inl (subst (λ (s : Site). ImagesHave s images) (sym known) (image_at d n (held_in f) (logged_in f) m.next images part at.named f.plain (at_place (held_in f) (logged_in f) (images 0) old))))
-          (λ new. inr (changed images part new)) has
+  -- what it changes of the device, as far as stops are told
+  pub calling : {tells : Told} (a b : View) → IsLawful tells b → ImagesMatch m a → KeepsRest 0 a b
+      → (tells.stops → Within 0 (IsSameButSpace (clusters_in f)) (IsSameOrChanged f next o) a b) → ChangesOnce step m a b
+  calling a b lawful on rest told = record {
+    within = record {
+      later = rest.later;
+      images = λ images may. (within_call a b on (told (lawful.stops_told 0 (images 0) (may 0)))).images images may;
+      streams = rest.streams;
+      pictures = λ x p le left. (within_call a b on (told (lawful.left_told x p left))).pictures x p le left;
+    };
+    attached = rest.attached;
+    others = others_told a b lawful rest (λ x. others_of_call (IsSameButSpace (clusters_in f)) (IsSameOrChanged f next o) a b (told x) rest);
+  }
 
   -- the manager after the call, with the file as the call left it
-  pub after_call : (f' : SpaceFile) (r : Reply) → IsCalled f f' next o r → place_in f' ≡ place_in f → clusters_in f' ≡ clusters_in f → r.numbers ≤ 1 → (m' : Manager) → m'.content ≡ m.content → m'.file ≡ Some f' → m'.next ≡ m.next + r.numbers
-      → (a b : View) → ImagesMatch m a → ((image : List ℕ) → b.may_leave 0 image → Within 0 (IsSameButSpace (clusters_in f)) (IsSameOrChanged f next o) a b) → AreFile f' next.epoch b → IsServed step m m' b r.answer
-  after_call f' r called same_place same_clusters most m' same file' taken a b on within files =
-      let content' = same ∙ at.content in
-      let next_after : m'.next ≡ next.number + o.numbers = taken ∙ (λ i. ap (λ (x : Arrival). x.number) (sym arrival_is) i + called.numbers i) in
-      record {
-        answer = called.answer ∙ sym (ap (λ (x : Outcome). x.answer) made);
-        site = site_known m' d n f' content' at.named file'
-            ∙ (λ i. site_at d (Some (record (placed_of n f) { logged = called.logged i; space = called.space i })) (next_after i))
-            ∙ sym (ap (λ (x : Outcome). x.site) made);
-        next = omega (arith, taken, most);
-        images = λ image may.
-            let came_from = (within image may).own image may in
-            let was = behind a on came_from.image (subst (λ (p : SpacePlace). a.may_leave p.dev came_from.image) (sym place) came_from.was) in
-            let there : place_in f' ≡ place_of d n = same_place ∙ place in
-            on_from m' d n f' content' at.named file' image
-            (stands_after came_from.image image (on came_from.image came_from.was) came_from.step) (record {
-              place = record { is = there; clusters = same_clusters ∙ in_place.clusters };
-              file = subst (λ (k : ℕ). IsFile f' k image) epoch_is (files image (subst (λ (p : SpacePlace). b.may_leave p.dev image) (sym there) may));
-              newer = subst (λ (k : ℕ). IsNewer k m'.next (held_in f')) epoch_is (subst (λ (k : ℕ). IsNewer next.epoch k (held_in f')) (sym next_after) (called.newer was.newer));
-            });
-      }
+  module _ (f' : SpaceFile) (r : Reply) (called : IsCalled f f' next o r) (same_place : place_in f' ≡ place_in f)
+      (same_clusters : clusters_in f' ≡ clusters_in f) (most : r.numbers ≤ 1)
+      (d' : Disk) (with : IsDiskWith d (set (files_of d) at (Some f')) d') (m' : Manager) (there' : m'.disk ≡ Some d')
+      (taken : m'.next ≡ m.next + r.numbers) where
+    entries_after : all_placed t.entries (set (files_of d) at (Some f')) ≡ set v.entries at (Some (placed_of n f'))
+    entries_after =
+        let within = some_within t.entries at n is.named in
+        ap (λ (l : List (Option NamedSpace)). all_placed l (set (files_of d) at (Some f')))
+        (sym (ap (set t.entries at) (sym is.named) ∙ set-get_or t.entries at None))
+        ∙ placed_put t.entries (files_of d) at n f' within (some_within (files_of d) at f is.file)
+
+    next_after : m'.next ≡ next.number + o.numbers
+    next_after = taken ∙ (λ i. ap (λ (x : Arrival). x.number) (sym arrival_is) i + called.numbers i)
+
+    site_after : site_of m' ≡ step.site
+    site_after =
+        ap (λ (x : Option Disk). site_with x m'.next) there' ∙ site_with_files d d' (set (files_of d) at (Some f')) m'.next with
+        ∙ (λ i. record (site_with (Some d) (next_after i)) { devices = Some (record v { entries = entries_after i }) ∷ [] })
+        ∙ (λ i. record (site_with (Some d) (next.number + o.numbers)) {
+          devices = Some
+              (record v { entries = set v.entries at (Some (record (placed_of n f) { logged = called.logged i; space = called.space i })) }) ∷ [];
+        })
+        ∙ sym (ap (λ (x : Outcome). x.site) made)
+
+    pub after_call : (a b : View) → ImagesMatch m a → ((image : List ℕ) → b.may_leave 0 image → Within 0 (IsSameButSpace (clusters_in f))
+        (IsSameOrChanged f next o) a b)
+        → AreFile f' next.epoch b → IsServed step m m' b r.answer
+    after_call a b on within files = record {
+      answer = called.answer ∙ sym (ap (λ (x : Outcome). x.answer) made);
+      site = site_after;
+      next = omega (arith, taken, most);
+      images = λ image may.
+          let came = (within image may).own image may in
+          let had = disk_on m d there a on came.image came.was in
+          let own = on_own came.image image came.step in
+          let here : HasFile t (epoch_of d) m'.next n f' image =
+          record {
+            place = record { is = same_place ∙ in_place.is; clusters = same_clusters ∙ in_place.clusters };
+            file = subst (λ k. IsFile f' k image) epoch_is (files image
+                (subst (λ k. b.may_leave k image) (sym (ap (λ (p : SpacePlace). p.dev) same_place ∙ dev_is)) may));
+            newer = subst (λ k. IsNewer k m'.next (held_in f')) epoch_is (subst (λ k. IsNewer next.epoch k (held_in f')) (sym next_after)
+                (called.newer (subst (λ (x : Arrival). IsNewer x.epoch x.number (held_in f)) (sym arrival_is) (has_file came.image had).newer)));
+          } in
+          subst (λ (x : Option Disk). HasDiskOrIsBlank x m'.next image) (sym there')
+          (disk_with_files d d' (set (files_of d) at (Some f')) m'.next image with (table_stays d at n is.named came.image image own had.table)
+          (journal_stays d at n is.named came.image image own had.journal)
+          (files_with d at n is.named came.image image own m.next had m'.next f' (omega (arith, taken)) here));
+    }

@@ -1,142 +1,219 @@
 -- The site for which one device stands, by what is on it.
-use Rattle.std.proofs.Common.{◌≡◌, ◌<◌, ◌≤◌, ℕ, List, refl, sym, ◌∙◌, ap, subst, arith, Option, Some, None, Bool, true, false, length}
-use Rattle.std.specs.Prelude.{nat_lt, option_map, is_some, ◌&&◌, ◌*◌, ◌+◌}
+use Rattle.std.proofs.Common.{◌≡◌, ◌<◌, ◌≤◌, ℕ, suc, List, [], ◌∷◌, ◌++◌, refl, sym, ◌∙◌, ap, subst, arith, Option, Some, None, Bool, true, false, length, get_or, map}
+use Rattle.std.specs.Prelude.{nat_lt, is_some, not, unwrap_or, option_map, ◌&&◌, ◌*◌, ◌+◌}
 use Rattle.std.proofs.lemmas.Bool.Decides.{nat_tests}
+use Rattle.std.proofs.lemmas.List.Folds.{list_all-append}
 use Rattle.tq_host.specs.View.{View, Images}
-use Rattle.tq_model.specs.Space.{Space}
-use Rattle.tq_model.specs.Moves.{IndexedSpace}
-use Rattle.tq_model.specs.Plain.{KeepsAllAtCrash}
+use Rattle.tq_extent.specs.Clusters.{clusters_of}
 use Rattle.tq_extent.proofs.BytesLemmas.{bytes_of-owned}
-use Rattle.tq_model.specs.DeviceForm.{first_page}
+use Rattle.tq_model.specs.DeviceForm.{Journal, first_page, header_bytes}
 use Rattle.tq_model.specs.SpaceForm.{raw_space}
-use Rattle.tq_model.specs.Parts.{IsPart, table_with, first_extents}
-use Rattle.tq_model.specs.Reading.{site_found, hold_all, page_tests, space_in}
+use Rattle.tq_model.specs.Site.{Site, SpaceOnDevice, last_epoch, table_entries}
+use Rattle.tq_model.specs.Parts.{IsPart}
+use Rattle.tq_model.specs.Reading.{DevicePart, NamedSpace, Replayed, site_found, hold_all, device_tests, journal_tests, has_no_decision, page_tests, space_in, placed_as}
 use Rattle.tq_model.specs.Reading as reads
-use Rattle.tq_model.proofs.Images.{short_reading, damaged_parts, space_damage, found_blank, found_bare, found_space, found_damaged}
+use Rattle.tq_model.proofs.Images.{short_reading, damaged_parts, damaged_spaces, has_pages, each_space_holds, space_fails, found_blank, found_spaces, found_damaged}
 use Rattle.tq_model.specs.Step.{can_boot}
-use Rattle.tq_model.proofs.RecordMoves.{crashed_plain}
-use Rattle.tq_device.specs.declared.content.DeviceContent.{DeviceContent}
-use Rattle.tq_device.specs.declared.content.NamedSpace.{NamedSpace}
-use Rattle.tq_device.specs.Content.{HasContent, part_of, named_view, journal_view}
+use Rattle.tq_devtab.specs.Volume.{TablePart, HasTable, volume_tests, is_volume}
+use Rattle.tq_devtab.specs.InMemory.{part_of}
+use Rattle.tq_devtab.proofs.KeptLemmas.{table_has}
+use Rattle.tq_site.specs.Journal.{HasEpoch, journal_in}
 use Rattle.tq_spacefile.specs.declared.file.SpaceFile.{SpaceFile}
 use Rattle.tq_spacefile.specs.declared.place.SpacePlace.{SpacePlace}
-use Rattle.tq_spacefile.specs.File.{HasSpace, place_in, clusters_in, held_in, logged_in, has_space}
+use Rattle.tq_spacefile.specs.File.{HasSpace, IsFile, place_in, clusters_in, held_in, logged_in, has_space}
+use Rattle.tq_coord.specs.declared.site.Disk.{Disk}
 use Rattle.tq_coord.specs.declared.site.Manager.{Manager}
-use Rattle.tq_coord.specs.Manager.{site_of, site_with, site_at, placed_at, placed_in, ImageMatches, IsContentOn, IsFileOn, IsFileAt, IsLoaded, loaded_site, is_bootable, IsBooted, IsRaised}
-use Rattle.tq_coord.specs.Together.{place_of, space_clusters, IsInPlace}
+use Rattle.tq_coord.specs.Manager.{site_of, site_with, epoch_of, files_of, placed_of, placed_in, all_placed, volume_with, HasFileOf, HasDisk, HasDiskOrIsBlank, ImageMatches, IsFileAt, AreFilesAt, IsLoaded, is_bootable, IsBooted, IsRaised}
+use Rattle.tq_coord.specs.Together.{place_of, IsInPlace}
 use Rattle.tq_coord.specs.Frame.{device_count}
 use Rattle.tq_coord.specs.Images.{ImagesHave}
 use Rattle.tq_coord.proofs.ImageLemmas.{found_have}
 
-pub part_of_stands : (d : DeviceContent) (image : List ℕ) → HasContent d image → IsPart (part_of d) image
-part_of_stands d image is = record { size = is.size; tests = is.tests; part = is.part }
+-- ---- the parts of a device
 
--- A device without a space
+-- a table, and a journal of this epoch
+abbrev pub with_journal : TablePart → ℕ → DevicePart
+with_journal t epoch = record { site = t.site; clusters = t.clusters; next_space = t.next_space; journal = Some (record { epoch = epoch; decision = None }); entries = t.entries }
 
-pub image_bare : (d : DeviceContent) (next : ℕ) (images : Images) → IsPart (part_of d) (images 0) → d.named ≡ None → ImagesHave (site_at d None next) images
-image_bare d next images is none = found_bare (part_of d) images is (ap (λ (o : Option NamedSpace). table_with (option_map named_view o)) none)
+abbrev pub journal_holds : List ℕ → Bool
+journal_holds image = hold_all (journal_tests (journal_in image) ++ has_no_decision (journal_in image) ∷ [])
 
-pub blank_found : (images : Images) → length (images 0) < 131072 → site_found device_count images ≡ Some (site_with None None 0)
-blank_found images lt = found_blank images (short_reading (images 0) lt)
+-- the tests of the device are those of the table and of the journal
+pub both_tests : (image : List ℕ) → hold_all (device_tests 0 image) ≡ (hold_all (volume_tests 0 image) && journal_holds image)
+both_tests image = list_all-append (λ test. test) (volume_tests 0 image) (journal_tests (journal_in image) ++ has_no_decision (journal_in image) ∷ [])
 
--- A device with a space
+journal_tested : (epoch : ℕ) (image : List ℕ) → HasEpoch epoch image → journal_holds image ≡ true
+journal_tested epoch image has =
+    let j = journal_in image in
+    let undecided : has_no_decision j ≡ true = ap (λ (o : Option Journal). unwrap_or (option_map (λ (k : Journal). not (is_some k.decision)) o) false) has.says in
+    list_all-append (λ test. test) (journal_tests j) (has_no_decision j ∷ []) ∙ (λ i. has.tests i && (undecided i && true))
 
-space_found : (d : DeviceContent) (n : NamedSpace) (held : IndexedSpace) (logged : ℕ) (images : Images) → IsPart (part_of d) (images 0) → d.named ≡ Some n
-    → HasSpace (place_of d n) (space_clusters n.pages) d.epoch held logged (images 0) → site_found device_count images ≡ Some (site_at d (Some (placed_at n logged held)) 0)
-space_found d n held logged images is named has =
-    let r : reads.Replayed = record { payloads = has.payloads; space = held } in
-    let same = bytes_of-owned (first_extents n.pages) (images 0) in
-    found_space (part_of d) (named_view n) (journal_view d.epoch) r images is (ap (λ (o : Option NamedSpace). table_with (option_map named_view o)) named) refl
-    (ap (λ (b : List ℕ). hold_all (page_tests n.pages (raw_space (first_page b)))) same ∙ has.page)
-    (ap (space_in d.site (8 * n.ordinal + 0) d.epoch n.pages) same ∙ has.reads)
-    ∙ ap (λ k. Some (site_at d (Some (placed_at n k held)) 0)) (sym has.ends)
+pub part_stands : (t : TablePart) (epoch : ℕ) (image : List ℕ) → HasTable 0 t image → HasEpoch epoch image → IsPart (with_journal t epoch) image
+part_stands t epoch image table journal = record {
+  size = table.size;
+  tests = both_tests image ∙ (λ i. table.tests i && journal_tested epoch image journal i);
+  part = λ i. record { site = (table.part i).site; clusters = (table.part i).clusters; next_space = (table.part i).next_space; journal = journal.says i; entries = (table.part i).entries };
+}
 
--- a crash leaves the site of a plain space but for the number of the next message
-pub image_at : (d : DeviceContent) (n : NamedSpace) (held : IndexedSpace) (logged next : ℕ) (images : Images) → IsPart (part_of d) (images 0) → d.named ≡ Some n → KeepsAllAtCrash held → HasSpace (place_of d n) (space_clusters n.pages) d.epoch held logged (images 0)
-    → ImagesHave (site_at d (Some (placed_at n logged held)) next) images
-image_at d n held logged next images is named plain has =
-    space_found d n held logged images is named has ∙ ap (λ (s : Space). Some (site_at d (Some (record (placed_at n logged held) { space = s })) 0)) (sym (crashed_plain held plain))
+-- ---- the spaces of a device
 
 -- the space of a file in its place
-pub has_there : (place : SpacePlace) (f : SpaceFile) (epoch : ℕ) (held : IndexedSpace) (logged : ℕ) (image : List ℕ) → IsInPlace place f
-    → HasSpace (place_in f) (clusters_in f) epoch held logged image → HasSpace place (space_clusters place.pages) epoch held logged image
-has_there place f epoch held logged image at has =
-    subst (λ (p : SpacePlace). HasSpace p (space_clusters place.pages) epoch held logged image) at.is
-    (subst (λ (l : List ℕ). HasSpace (place_in f) l epoch held logged image) at.clusters has)
+pub has_there : (place : SpacePlace) (clusters : List ℕ) (f : SpaceFile) (epoch : ℕ) (image : List ℕ) → place_in f ≡ place → clusters_in f ≡ clusters
+    → IsFile f epoch image → HasSpace place clusters epoch (held_in f) (logged_in f) image
+has_there place clusters f epoch image is same file =
+    subst (λ (p : SpacePlace). HasSpace p clusters epoch (held_in f) (logged_in f) image) is
+    (subst (λ (l : List ℕ). HasSpace (place_in f) l epoch (held_in f) (logged_in f) image) same file.has)
 
--- What was loaded
+module _ (t : TablePart) (epoch : ℕ) (image : List ℕ) where
+  abbrev d : DevicePart
+  d = with_journal t epoch
 
-loaded_at : (d : DeviceContent) (named : Option NamedSpace) (file : Option SpaceFile) (images : Images) → d.named ≡ named → IsPart (part_of d) (images 0) → IsFileAt d named file (images 0)
-    → site_found device_count images ≡ Some (site_at d (placed_in named file) 0)
-loaded_at d None None images named is on = image_bare d 0 images is named
-loaded_at d None (Some f) images named is on = absurd on
-loaded_at d (Some n) None images named is on = absurd on
-loaded_at d (Some n) (Some f) images named is on = space_found d n (held_in f) (logged_in f) images is named (has_there (place_of d n) f d.epoch (held_in f) (logged_in f) (images 0) on.0 on.1.has)
+  -- whether an entry's pages have a reading, by the bytes of its clusters
+  pub pages_by : (n : NamedSpace) → has_pages d n image ≡ has_space (place_of 0 t n) (clusters_of n.extents) epoch image
+  pages_by n = ap (λ (b : List ℕ). hold_all (page_tests n.pages (raw_space (first_page b))) && is_some (space_in t.site (8 * n.ordinal + 0) epoch n.pages b)) (bytes_of-owned n.extents image)
 
-pub loaded_found : (d : DeviceContent) (file : Option SpaceFile) (images : Images) → IsLoaded d file (images 0) → site_found device_count images ≡ Some (loaded_site d file)
-loaded_found d file images is = loaded_at d d.named file images refl (part_of_stands d (images 0) is.stands) is.space
+  module _ (n : NamedSpace) (f : SpaceFile) (place : IsInPlace 0 t n f) (file : IsFile f epoch image) where
+    has : HasSpace (place_of 0 t n) (clusters_of n.extents) epoch (held_in f) (logged_in f) image
+    has = has_there (place_of 0 t n) (clusters_of n.extents) f epoch image place.is place.clusters file
 
--- images have what was loaded, whatever the selectors
-pub parts_have : (d : DeviceContent) (file : Option SpaceFile) (images : Images) → IsPart (part_of d) (images 0) → IsFileAt d d.named file (images 0) → ImagesHave (loaded_site d file) images
-parts_have d file images is on = found_have images (loaded_site d file) (loaded_at d d.named file images refl is on)
+    file_pages : has_pages d n image ≡ true
+    file_pages = pages_by n ∙ (λ i. has.page i && is_some (has.reads i))
 
--- What the manager holds
+    file_placed : reads.placed_in 0 d image (Some n) ≡ Some (placed_of n f)
+    file_placed =
+        ap (λ (b : List ℕ). option_map (placed_as n) (space_in t.site (8 * n.ordinal + 0) epoch n.pages b)) (bytes_of-owned n.extents image)
+        ∙ ap (option_map (placed_as n)) has.reads
+        ∙ ap (λ (k : ℕ). Some (record (placed_of n f) { logged = k })) (sym has.ends)
 
-pub file_at : (d : DeviceContent) (named : Option NamedSpace) (file : Option SpaceFile) (next : ℕ) (image : List ℕ) → IsFileOn d named file next image → IsFileAt d named file image
-file_at d None None next image on = tt
-file_at d None (Some f) next image on = absurd on
-file_at d (Some n) None next image on = absurd on
-file_at d (Some n) (Some f) next image on = (on.place, on.file)
+  pub entry_pages : (named : Option NamedSpace) (file : Option SpaceFile) (n : NamedSpace) → IsFileAt t epoch named file image → named ≡ Some n → has_pages d n image ≡ true
+  entry_pages None file n is at = absurd (cc)
+  entry_pages (Some m) None n is at = absurd is
+  entry_pages (Some m) (Some f) n is at = subst (λ (o : Option NamedSpace). IsFileAt t epoch o (Some f) image → has_pages d n image ≡ true) (sym at) (λ here. file_pages n f here.0 here.1) is
 
-pub content_have : (content : Option DeviceContent) (file : Option SpaceFile) (next : ℕ) (images : Images) → IsContentOn content file next (images 0) → ImagesHave (site_with content file next) images
-content_have None None next images is = blank_found images is
-content_have None (Some f) next images is = absurd is
-content_have (Some d) file next images is = parts_have d file images (part_of_stands d (images 0) is.stands) (file_at d d.named file next (images 0) is.space)
+  pub entry_placed : (named : Option NamedSpace) (file : Option SpaceFile) → IsFileAt t epoch named file image → reads.placed_in 0 d image named ≡ placed_in named file
+  entry_placed None file is = refl
+  entry_placed (Some n) None is = absurd is
+  entry_placed (Some n) (Some f) is = file_placed n f is.0 is.1
 
--- a device that is created
-pub content_stands : (m : Manager) (d : DeviceContent) (image : List ℕ) → m.content ≡ Some d → ImageMatches m image → HasContent d image
-content_stands m d image is on = (subst (λ (content : Option DeviceContent). IsContentOn content m.file m.next image) is on).stands
+  entries_placed : (named : List (Option NamedSpace)) (files : List (Option SpaceFile)) → length named ≡ length files
+      → ((i : ℕ) → IsFileAt t epoch (get_or named i None) (get_or files i None) image) → map (reads.placed_in 0 d image) named ≡ all_placed named files
+  entries_placed [] files same each = refl
+  entries_placed (n ∷ named) [] same each = absurd (omega (arith, same))
+  entries_placed (n ∷ named) (f ∷ files) same each =
+      let first = entry_placed n f (each 0) in
+      let rest = entries_placed named files (omega (arith, same)) (λ i. each (suc i)) in
+      λ i. first i ∷ rest i
 
-pub blank_is_short : (m : Manager) (image : List ℕ) → m.content ≡ None → ImageMatches m image → length image < 131072
-blank_is_short m image blank on = without_file m.file (subst (λ (content : Option DeviceContent). IsContentOn content m.file m.next image) blank on)
-  where
-    without_file : (file : Option SpaceFile) → IsContentOn None file m.next image → length image < 131072
-    without_file None short = short
-    without_file (Some f) is = absurd is
+-- ---- what was loaded
 
--- Damage
+-- a table, a journal of this epoch and the spaces of the entries
+pub record HasParts (t : TablePart) (epoch : ℕ) (files : List (Option SpaceFile)) (image : List ℕ) : Type 0 where
+  pub table : HasTable 0 t image
+  pub journal : HasEpoch epoch image
+  pub spaces : AreFilesAt t epoch files image
+  pub count : length files ≡ table_entries
 
-pub damaged_device : (images : Images) → (131072 ≤ length (images 0)) × (reads.hold_all (reads.device_tests 0 (images 0)) ≡ false) → site_found device_count images ≡ None
-damaged_device images is = found_damaged images (damaged_parts (images 0) is.0 is.1)
+-- the site that they stand for
+abbrev pub site_from : TablePart → ℕ → List (Option SpaceFile) → Site
+site_from t epoch files = record { identity = Some (record { site = t.site; epoch = epoch }); next = 0; clock = 0; devices = Some (volume_with t files) ∷ [] }
 
-pub damaged_space : (d : DeviceContent) (n : NamedSpace) (images : Images) → HasContent d (images 0) → d.named ≡ Some n → has_space (place_of d n) (space_clusters n.pages) d.epoch (images 0) ≡ false → site_found device_count images ≡ None
-damaged_space d n images is named none =
-    let has_pages : List ℕ → Bool = λ b. hold_all (page_tests n.pages (raw_space (first_page b))) && is_some (space_in d.site (8 * n.ordinal + 0) d.epoch n.pages b) in
-    found_damaged images
-    (space_damage (part_of d) (named_view n) (images 0) (part_of_stands d (images 0) is) (ap (λ (o : Option NamedSpace). table_with (option_map named_view o)) named)
-    (ap has_pages (bytes_of-owned (first_extents n.pages) (images 0)) ∙ none))
+pub parts_found : (t : TablePart) (epoch : ℕ) (files : List (Option SpaceFile)) (images : Images) → HasParts t epoch files (images 0)
+    → site_found device_count images ≡ Some (site_from t epoch files)
+parts_found t epoch files images is =
+    let journal : Journal = record { epoch = epoch; decision = None } in
+    let many : length t.entries ≡ length files = (table_has 0 t (images 0) is.table).count ∙ sym is.count in
+    found_spaces (with_journal t epoch) journal images (part_stands t epoch (images 0) is.table is.journal) refl
+    (each_space_holds (with_journal t epoch) (images 0) t.entries
+    (λ i n at. entry_pages t epoch (images 0) (get_or t.entries i None) (get_or files i None) n (is.spaces i) at))
+    ∙ ap (λ (entries : List (Option SpaceOnDevice)). Some (record (site_from t epoch files) {
+      devices = Some (record { clusters = t.clusters; next_space = t.next_space; entries = entries }) ∷ [];
+    }))
+    (entries_placed t epoch (images 0) t.entries files many is.spaces)
 
--- Boots
+module _ (disk : Disk) (images : Images) (is : IsLoaded disk (images 0)) where
+  abbrev t : TablePart
+  t = part_of disk.table
 
-pub booted_blank : (m : Manager) (old new : View) → site_of m ≡ site_with None None 0 → (length (new.reads 0) < 131072 → ImageMatches m (new.reads 0)) → length (old.reads 0) < 131072 → new.reads 0 ≡ old.reads 0 → IsBooted m old new
-booted_blank m old new site on short same = record { found = site_with None None 0; stood = blank_found old.reads short; raisable = refl; site = site; stands = on (subst (λ (l : List ℕ). length l < 131072) (sym same) short) }
+  pub has_table : HasTable 0 t (images 0)
+  has_table = subst (λ (place : ℕ). HasTable place t (images 0)) disk.number is.table.has
+
+  pub loaded_found : site_found device_count images ≡ Some (site_with (Some disk) 0)
+  loaded_found = parts_found t (epoch_of disk) (files_of disk) images
+      (record { table = has_table; journal = is.journal.has; spaces = is.files; count = disk.fit.count })
+
+  pub loaded_have : ImagesHave (site_with (Some disk) 0) images
+  loaded_have = found_have images (site_with (Some disk) 0) loaded_found
+
+pub blank_found : (images : Images) → length (images 0) < header_bytes → site_found device_count images ≡ Some (site_with None 0)
+blank_found images lt = found_blank images (short_reading (images 0) lt)
+
+-- ---- what the manager holds
+
+pub file_at : (t : TablePart) (epoch next : ℕ) (named : Option NamedSpace) (file : Option SpaceFile) (image : List ℕ) → HasFileOf t epoch next named file image → IsFileAt t epoch named file image
+file_at t epoch next None None image is = tt
+file_at t epoch next None (Some f) image is = absurd is
+file_at t epoch next (Some n) None image is = absurd is
+file_at t epoch next (Some n) (Some f) image is = (is.place, is.file)
+
+pub loaded_of : (d : Disk) (next : ℕ) (image : List ℕ) → HasDisk d next image → IsLoaded d image
+loaded_of d next image has = record {
+  table = has.table;
+  journal = has.journal;
+  files = λ i. file_at (part_of d.table) (epoch_of d) next (get_or (part_of d.table).entries i None) (get_or (files_of d) i None) image (has.files i);
+}
+
+pub disk_have : (disk : Option Disk) (next : ℕ) (images : Images) → HasDiskOrIsBlank disk next (images 0) → ImagesHave (site_with disk next) images
+disk_have None next images is = blank_found images is
+disk_have (Some d) next images is = loaded_have d images (loaded_of d next (images 0) is)
+
+pub image_have : (m : Manager) (images : Images) → ImageMatches m (images 0) → ImagesHave (site_of m) images
+image_have m images is = disk_have m.disk m.next images is
+
+-- ---- damage
+
+module _ (images : Images) (long : header_bytes ≤ length (images 0)) where
+  abbrev image : List ℕ
+  image = images 0
+
+  pub damaged_table : is_volume (Some 0) image ≡ false → site_found device_count images ≡ None
+  damaged_table fails = found_damaged images (damaged_parts image long (both_tests image ∙ ap (λ b. b && journal_holds image) fails))
+
+  pub damaged_journal : journal_holds image ≡ false → site_found device_count images ≡ None
+  damaged_journal fails = found_damaged images (damaged_parts image long (both_tests image ∙ ap (λ b. hold_all (volume_tests 0 image) && b) fails ∙ none (hold_all (volume_tests 0 image))))
+    where
+      none : (b : Bool) → (b && false) ≡ false
+      none true = refl
+      none false = refl
+
+pub damaged_space : (t : TablePart) (epoch : ℕ) (images : Images) → HasTable 0 t (images 0) → HasEpoch epoch (images 0) → (i : ℕ) (n : NamedSpace) → get_or t.entries i None ≡ Some n
+    → has_space (place_of 0 t n) (clusters_of n.extents) epoch (images 0) ≡ false → site_found device_count images ≡ None
+damaged_space t epoch images table journal i n at fails =
+    found_damaged images (damaged_spaces (with_journal t epoch) (images 0) (part_stands t epoch (images 0) table journal)
+    (space_fails (with_journal t epoch) (images 0) t.entries i n at (pages_by t epoch (images 0) n ∙ fails)))
+
+-- ---- boots
+
+pub booted_blank : (m : Manager) (old new : View) → site_of m ≡ site_with None 0 → (length (new.reads 0) < header_bytes → ImageMatches m (new.reads 0))
+    → length (old.reads 0) < header_bytes → new.reads 0 ≡ old.reads 0 → IsBooted m old new
+booted_blank m old new site on short same =
+    record { found = site_with None 0; stood = blank_found old.reads short; raisable = refl; site = site; stands = on (subst (λ (l : List ℕ). length l < header_bytes) (sym same) short) }
 
 -- an epoch that is not the last one can be raised
-pub can_raise : (d : DeviceContent) (file : Option SpaceFile) → d.epoch < 4294967295 → can_boot (loaded_site d file) ≡ true
-can_raise d file below = below_last d.epoch below
+pub can_raise : (d : Disk) → epoch_of d < last_epoch → can_boot (site_with (Some d) 0) ≡ true
+can_raise d below = below_last (epoch_of d) below
   where
     below_last : (n : ℕ) → n < 4294967295 → nat_lt n 4294967295 ≡ true
     below_last n lt = grind (arith, nat_tests)
 
-pub booted_raised : (d : DeviceContent) (file : Option SpaceFile) (m : Manager) (old new : View) → IsLoaded d file (old.reads 0) → IsRaised d file m (new.reads 0) → IsBooted m old new
-booted_raised d file m old new loaded raised = record {
-  found = loaded_site d file;
-  stood = loaded_found d file old.reads loaded;
-  raisable = can_raise d file raised.below;
+pub booted_raised : (d : Disk) (m : Manager) (old new : View) → IsLoaded d (old.reads 0) → IsRaised d m (new.reads 0) → IsBooted m old new
+booted_raised d m old new loaded raised = record {
+  found = site_with (Some d) 0;
+  stood = loaded_found d old.reads loaded;
+  raisable = can_raise d raised.below;
   site = raised.site;
   stands = raised.stands;
 }
 
 -- where the last epoch stands, there is no boot
-pub last_not_bootable : (images : Images) (d : DeviceContent) (file : Option SpaceFile) → IsLoaded d file (images 0) → d.epoch ≡ 4294967295 → is_bootable (site_found device_count images) ≡ false
-last_not_bootable images d file is e = ap is_bootable (loaded_found d file images is) ∙ ap (λ n. nat_lt n 4294967295) e
+pub last_not_bootable : (images : Images) (d : Disk) → IsLoaded d (images 0) → epoch_of d ≡ last_epoch → is_bootable (site_found device_count images) ≡ false
+last_not_bootable images d is e = ap is_bootable (loaded_found d images is) ∙ ap (λ n. nat_lt n 4294967295) e

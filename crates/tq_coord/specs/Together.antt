@@ -1,46 +1,41 @@
--- A manager has a space in memory exactly where its device's table names one, and at its place.
-use Rattle.std.specs.Prelude.{◌≡◌, ◌+◌, ◌*◌, ℕ, List, Option, Some, None}
+-- A device in memory has a space for each entry of its table that is used, at the entry's place and on its clusters.
+use Rattle.std.specs.Prelude.{◌≡◌, ℕ, List, length, get_or, Option, Some, None}
 use Rattle.std.proofs.Props.{props}
 use Rattle.tq_extent.specs.Clusters.{clusters_of}
-use Rattle.tq_model.specs.Parts.{first_extents}
-use Rattle.tq_device.specs.declared.content.DeviceContent.{DeviceContent}
-use Rattle.tq_device.specs.declared.content.NamedSpace.{NamedSpace}
+use Rattle.tq_model.specs.Site.{table_entries}
+use Rattle.tq_model.specs.Step.{number_of}
+use Rattle.tq_model.specs.Reading.{NamedSpace}
+use Rattle.tq_devtab.specs.Volume.{TablePart}
 use Rattle.tq_spacefile.specs.declared.place.SpacePlace.{SpacePlace}
 use Rattle.tq_spacefile.specs.declared.file.SpaceFile.{SpaceFile}
 use Rattle.tq_spacefile.specs.File.{place_in, clusters_in}
 
--- where the space of that name lies, on device 0
-abbrev pub place_of : DeviceContent → NamedSpace → SpacePlace
-place_of d n = record { dev = 0; pages = n.pages; site = d.site; number = 8 * n.ordinal + 0 }
+-- where the space that is named so lies, on the device with this number
+abbrev pub place_of : ℕ → TablePart → NamedSpace → SpacePlace
+place_of dev t n = record { dev = dev; pages = n.pages; site = t.site; number = number_of dev n.ordinal }
 
--- the clusters of the space with so many pages
-abbrev pub space_clusters : ℕ → List ℕ
-space_clusters pages = clusters_of (first_extents pages)
+-- the space in memory lies at that place, on the clusters of its entry
+pub record IsInPlace (dev : ℕ) (t : TablePart) (n : NamedSpace) (f : SpaceFile) : Type 0 where
+  pub is : place_in f ≡ place_of dev t n
+  pub clusters : clusters_in f ≡ clusters_of n.extents
 
--- the space in memory lies at that place, on its clusters
-pub record IsInPlace (place : SpacePlace) (f : SpaceFile) : Type 0 where
-  pub is : place_in f ≡ place
-  pub clusters : clusters_in f ≡ space_clusters place.pages
+-- an entry and what is in memory for it
+abbrev pub IsFileOf : ℕ → TablePart → Option NamedSpace → Option SpaceFile → Type 0
+IsFileOf dev t None None = Unit {0}
+IsFileOf dev t None (Some f) = ⊥
+IsFileOf dev t (Some n) None = ⊥
+IsFileOf dev t (Some n) (Some f) = IsInPlace dev t n f
 
-abbrev pub IsFileOf : DeviceContent → Option NamedSpace → Option SpaceFile → Type 0
-IsFileOf d None None = Unit {0}
-IsFileOf d None (Some f) = ⊥
-IsFileOf d (Some n) None = ⊥
-IsFileOf d (Some n) (Some f) = IsInPlace (place_of d n) f
-
-abbrev pub IsTogether : Option DeviceContent → Option SpaceFile → Type 0
-IsTogether None None = Unit {0}
-IsTogether None (Some f) = ⊥
-IsTogether (Some d) file = IsFileOf d d.named file
+pub record IsTogether (dev : ℕ) (t : TablePart) (files : List (Option SpaceFile)) : Type 0 where
+  pub count : length files ≡ table_entries
+  pub each : (i : ℕ) → IsFileOf dev t (get_or t.entries i None) (get_or files i None)
 
 -- at most one proof
-file_prop : (d : DeviceContent) (named : Option NamedSpace) (file : Option SpaceFile) → IsProp (IsFileOf d named file)
-file_prop d None None = Prim.hlevel props
-file_prop d None (Some f) = Prim.hlevel props
-file_prop d (Some n) None = Prim.hlevel props
-file_prop d (Some n) (Some f) = Prim.hlevel props
+file_prop : (dev : ℕ) (t : TablePart) (named : Option NamedSpace) (file : Option SpaceFile) → IsProp (IsFileOf dev t named file)
+file_prop dev t None None = Prim.hlevel props
+file_prop dev t None (Some f) = Prim.hlevel props
+file_prop dev t (Some n) None = Prim.hlevel props
+file_prop dev t (Some n) (Some f) = Prim.hlevel props
 
-pub together_prop : (content : Option DeviceContent) (file : Option SpaceFile) → IsProp (IsTogether content file)
-together_prop None None = Prim.hlevel props
-together_prop None (Some f) = Prim.hlevel props
-together_prop (Some d) file = file_prop d d.named file
+pub together_prop : (dev : ℕ) (t : TablePart) (files : List (Option SpaceFile)) → IsProp (IsTogether dev t files)
+together_prop dev t files = Prim.hlevel (props, file_prop)

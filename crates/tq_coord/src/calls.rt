@@ -85,12 +85,15 @@ impl Manager {
         ensures idle { durable (on_space (space_name call) (outcome_of call) (site_of self.old)).site ≡ durable (site_of self.old) → host.new ≡ host.old }
     {
         let name = call.space();
-        if !self.is_named(&name) {
-            return Ok(Answer::NoEntry);
-        }
         let next = self.next_arrival();
-        let Some(file) = &mut self.file else {
+        let Some(disk) = &mut self.disk else {
             return Ok(Answer::NoEntry);
+        };
+        let Some(index) = disk.entry_named(&name) else {
+            return Ok(Answer::NoEntry);
+        };
+        let Some(file) = &mut disk.files[index] else {
+            unreachable!()
         };
         let reply = call_file(alloc, host, file, call, next)?;
         self.next += reply.numbers;

@@ -1,23 +1,38 @@
+//! What is in memory of a site.
+
+ghost use Rattle.std.specs.Prelude.{◌≡◌};
+ghost use Rattle.tq_devtab.specs.InMemory as tables;
+ghost use Rattle.tq_site.specs.InMemory as journals;
 ghost use Rattle.tq_coord.specs.Together.{IsTogether, together_prop};
 
-use tq_device::DeviceContent;
+use tq_devtab::DeviceTable;
+use tq_site::SiteJournal;
 use tq_spacefile::SpaceFile;
 use tq_types::Arrival;
+
+// A device that is created: its table, the journal of the site, and the space of each entry.
+#[derive(Drop)]
+pub(crate) struct Disk {
+    pub(crate) table: DeviceTable,
+    pub(crate) journal: SiteJournal,
+    // 16, in the order of the table's entries
+    pub(crate) files: Vec<Option<SpaceFile>>,
+    ghost table_dev: { tables.dev_of table ≡ 0 },
+    ghost number: { tables.place_of table ≡ 0 },
+    ghost journal_dev: { journals.dev_of journal ≡ 0 },
+    ghost fit: { IsTogether 0 (tables.part_of table) files.items } by { together_prop 0 (tables.part_of table) files.items },
+}
 
 /// The site in memory: what its devices stand for, and the number of the next message.
 #[derive(Drop)]
 pub struct Manager {
-    // what device 0 holds, and None while it is blank
-    pub(crate) content: Option<DeviceContent>,
-    // the space that its table names
-    pub(crate) file: Option<SpaceFile>,
+    // device 0, and None while it is blank
+    pub(crate) disk: Option<Disk>,
     // the number of the next message
     pub(crate) next: u32,
-    ghost fit: { IsTogether content file } by { together_prop content file },
 }
 
 impl Manager {
-    ghost use Rattle.std.specs.Prelude.{◌≡◌};
     ghost use Rattle.tq_model.specs.Step.{next_arrival};
     ghost use Rattle.tq_coord.specs.Manager.{site_of};
 
@@ -32,9 +47,9 @@ impl Manager {
     pub fn next_arrival(&self) -> Arrival
         ensures { result ≡ next_arrival (site_of self.now) }
     {
-        let epoch = match &self.content {
+        let epoch = match &self.disk {
             None => 0,
-            Some(content) => content.epoch,
+            Some(disk) => disk.journal.epoch(),
         };
         Arrival {
             epoch,

@@ -1,31 +1,34 @@
-// Spaces: the reasons not to make one, and how one is made.
+// Spaces: the reasons not to make or remove one, and how one is made and removed.
 
-ghost use Rattle.std.specs.Prelude.{◌≡◌, ◌<◌, ◌≤◌, ◌+◌, ◌-◌, List, ℕ, IfOk, IfErr, OnOk, is_some, Some, None};
-ghost use Rattle.tq_host.specs.Within.{KeepsRest, Within};
-ghost use Rattle.tq_model.specs.Site.{durable, clusters_for, most_pages, space_named};
-ghost use Rattle.tq_model.specs.Space.{overhead_pages};
-ghost use Rattle.tq_model.specs.Step.{create_space, space_refusal, field_refused, pages_asked, shape_asked, pages_refusal, placing_refusal};
+ghost use Rattle.std.specs.Prelude.{◌≡◌, ◌≢◌, ◌<◌, ◌≤◌, ◌+◌, List, ℕ, IfOk, IfErr, IfSome, IfNone, OnOk, Some, None, get_or, length, is_some, true};
 ghost use Rattle.tq_host.specs.View.{IsSettled};
-ghost use Rattle.tq_device.specs.Content.{IsAnyStep, HasContent, entered};
 ghost use Rattle.tq_host.specs.Calls.{HasCause};
+ghost use Rattle.tq_host.specs.Within.{KeepsRest, Within};
+ghost use Rattle.tq_extent.specs.Clusters.{clusters_of};
+ghost use Rattle.tq_extent.specs.Pages.{page_count};
+ghost use Rattle.std.specs.List.{find};
+ghost use Rattle.tq_model.specs.Site.{durable, has_name, spaces_on};
+ghost use Rattle.tq_model.specs.Space.{overhead_pages};
+ghost use Rattle.tq_model.specs.Step.{create_space, remove_space, removal_refusal, space_refusal, field_refused, pages_asked, shape_asked};
+ghost use Rattle.tq_devtab.specs.InMemory as tables;
+ghost use Rattle.tq_devtab.specs.Reserved.{space_of};
+ghost use Rattle.tq_devtab.specs.Volume.{IsReserved, with_new};
 ghost use Rattle.tq_coord.specs.Images.{ImagesMatch};
-ghost use Rattle.tq_coord.specs.Manager.{site_of, volume_in};
+ghost use Rattle.tq_coord.specs.Manager.{site_of, next_of, volume_in, placed_of};
 ghost use Rattle.tq_coord.specs.Serving.{IsServed, ChangesOnce};
 ghost use Rattle.tq_coord.specs.Counts.{CountsFailure};
-ghost use Rattle.tq_coord.specs.Spaces.{IsShape, IsAdmitted, HasNewSpace, IsBareOrNew};
-ghost use Rattle.tq_coord.specs.Together.{space_clusters};
-ghost use Rattle.tq_extent.specs.Pages.{page_count};
+ghost use Rattle.tq_coord.specs.Spaces.{IsShape, IsAllowed, HasPlace, HasNewPages, IsLaidOut, IsWithoutOrWith, HasEntryAt, entry_dropped};
 
-use crate::devices::{capacity_of, clusters_for, has_space, space_map};
+use crate::site::Disk;
 use crate::{Failure, Manager};
 use std::alloc::Global;
-use tq_device::{DeviceContent, enter, grow};
+use tq_devtab::{DeviceTable, ReserveError, Reserved, grow};
 use tq_extent::PageMap;
-use tq_host::{Failed, Host};
+use tq_host::Host;
 use tq_model::{
-    Answer, CLUSTER_BYTES, ClusterRoom, DeviceAnswer, Field, HEADER_BYTES, LAST_SPACE, MOST_MEMORY,
-    MOST_MESSAGES, MOST_PAGES, MOST_QUEUES, MOST_TRANSACTIONS, NewSpace, Shape, SpaceAnswer,
-    SpaceCreation, SpacePages, overhead_pages,
+    Answer, DeviceAnswer, Field, MOST_MEMORY, MOST_MESSAGES, MOST_PAGES, MOST_QUEUES,
+    MOST_TRANSACTIONS, NewSpace, Shape, SpaceAnswer, SpaceCreation, SpacePages, SpaceRemoval,
+    overhead_pages,
 };
 use tq_spacefile::{SpaceFile, SpacePlace, format};
 use tq_types::Name;
@@ -67,42 +70,6 @@ fn shape_of(creation: &SpaceCreation) -> Shape
     }
 }
 
-// The first reason of the device not to make the space.
-fn placing_refusal(
-    content: &DeviceContent,
-    file: &Option<SpaceFile>,
-    creation: &SpaceCreation,
-) -> Option<Answer>
-    requires { creation.now.pages ≤ most_pages }
-    ensures { result ≡ placing_refusal creation.now (volume_in file.now content.now) }
-{
-    if has_space(content, file) || content.next_space >= LAST_SPACE {
-        return Some(Answer::Space(SpaceAnswer::TableFull));
-    }
-    let need = u64::from(clusters_for(creation.pages as u32));
-    let free = u64::from(capacity_of(content, file).free);
-    if free < need {
-        return Some(Answer::Space(SpaceAnswer::Lack(ClusterRoom { need, free })));
-    }
-    None
-}
-
-// The first reason of the pages, or of the device, not to make the space.
-fn pages_refusal(
-    content: &DeviceContent,
-    file: &Option<SpaceFile>,
-    creation: &SpaceCreation,
-) -> Option<Answer>
-    requires { field_refused creation.now ≡ None }
-    ensures { result ≡ pages_refusal creation.now (volume_in file.now content.now) }
-{
-    let pages = pages_of(creation);
-    if pages.pages <= pages.overhead {
-        return Some(Answer::Space(SpaceAnswer::Small(pages)));
-    }
-    placing_refusal(content, file, creation)
-}
-
 // The pages that are asked for, and those of them that are not for messages.
 fn pages_of(creation: &SpaceCreation) -> SpacePages
     requires { field_refused creation.now ≡ None }
@@ -117,107 +84,144 @@ fn pages_of(creation: &SpaceCreation) -> SpacePages
 // Makes the pages of the space, and enters it into the table of its device.
 fn lay_out<H: Host>(
     host: &mut H,
-    content: &DeviceContent,
-    name: Name,
+    table: &mut DeviceTable,
+    reserved: Reserved,
     shape: &Shape,
     map: &PageMap,
-) -> Result<DeviceContent, Failed>
+) -> Result<(), Failure>
+    requires dev { tables.dev_of table.old ≡ 0 }
+    requires number { tables.place_of table.old ≡ 0 }
     requires shape { IsShape shape.now }
-    requires map { map.now ≡ space_clusters shape.now.pages }
+    requires reserved { IsReserved (tables.part_of table.old) (space_of reserved) }
+    requires pages { (space_of reserved).pages ≡ shape.now.pages }
+    requires map { map.now ≡ clusters_of (space_of reserved).extents }
     requires enough { shape.now.pages ≤ page_count map.now }
-    requires bare { content.now.named ≡ None }
-    requires ordinals { content.now.next_space < 268435455 }
-    requires clusters { 4 + clusters_for shape.now.pages ≤ content.now.clusters }
-    requires holds { H.tells.reads → HasContent content.now ((H.view host.old).reads 0) }
-    ensures entered { IfOk result (λ d. d ≡ entered content.now name shape.now.pages) }
-    ensures done { IfOk result (λ d. H.tells.reads → HasNewSpace d shape.now ((H.view host.new).reads 0)) }
+    requires holds { H.tells.reads → tables.IsTableOf table.old ((H.view host.old).reads 0) }
+    ensures part { OnOk result (tables.part_of table.new ≡ with_new (space_of reserved) (tables.part_of table.old)) }
+    ensures dev { tables.dev_of table.new ≡ 0 }
+    ensures number { tables.place_of table.new ≡ 0 }
+    ensures table { OnOk result (H.tells.reads → tables.IsTableOf table.new ((H.view host.new).reads 0)) }
+    ensures pages { OnOk result (H.tells.reads → HasNewPages (space_of reserved) shape.now ((H.view host.new).reads 0)) }
+    // the step of the whole call: what lies outside the table and the new clusters is as it was, and the device is no shorter
+    ensures stop { tables.AreTableOf table.old (H.view host.old)
+        → Within 0 (IsLaidOut (space_of reserved)) (IsWithoutOrWith (tables.part_of table.old) (space_of reserved) shape.now)
+        (H.view host.old) (H.view host.new) }
     ensures settled { OnOk result (IsSettled 0 (H.view host.new)) }
-    ensures stop { ((c : List ℕ) → (H.view host.old).may_leave 0 c → HasContent content.now c)
-        → Within 0 IsAnyStep (IsBareOrNew content.now name shape.now) (H.view host.old) (H.view host.new) }
     ensures rest { KeepsRest 0 (H.view host.old) (H.view host.new) }
-    ensures failed { HasCause (H.view host.old).faults (H.view host.new).faults result }
+    ensures failed { CountsFailure result (H.view host.old).faults (H.view host.new).faults }
 {
-    let end = HEADER_BYTES + CLUSTER_BYTES * u64::from(clusters_for(shape.pages));
-    grow(host, 0, end)?;
+    grow(host, 0, reserved.end())?;
     format(host, 0, map, shape)?;
-    enter(host, 0, content, name, shape.pages)
+    table.enter(host, reserved)?;
+    Ok(())
+}
+
+// The lowest entry without a space.
+fn lowest_unused(files: &[Option<SpaceFile>]) -> Option<usize>
+    ensures some { IfSome result (λ at. (at < length files.now) × (get_or files.now at None ≡ None)
+        × ((i : ℕ) → i < at → is_some (get_or files.now i None) ≡ true)) }
+    ensures none { IfNone result ((i : ℕ) → i < length files.now → is_some (get_or files.now i None) ≡ true) }
+{
+    files.iter().position(|file| file.is_none())
+}
+
+impl Disk {
+    // The entry of the space of that name.
+    pub(crate) fn entry_named(&self, name: &Name) -> Option<usize>
+        ensures some { IfSome result (λ at. (at < 16) × (find (has_name name.now) (spaces_on (volume_in self.now)) ≡ get_or (volume_in self.now).entries at None)
+            × (is_some (get_or (volume_in self.now).entries at None) ≡ true)) }
+        ensures none { IfNone result (find (has_name name.now) (spaces_on (volume_in self.now)) ≡ None) }
+    {
+        for index in 0..16 {
+            let Some(space) = &self.table.entries()[index] else {
+                continue;
+            };
+            if space.name == *name {
+                return Some(index);
+            }
+        }
+        None
+    }
 }
 
 impl Manager {
-    // Whether the site has a space of that name.
-    pub fn is_named(&self, name: &Name) -> bool
-        ensures { result ≡ is_some (space_named name.now (site_of self.now)) }
-    {
-        match (&self.content, &self.file) {
-            (Some(content), Some(_)) => match &content.named {
-                None => false,
-                Some(named) => named.name == *name,
-            },
-            _ => false,
-        }
-    }
-
-    // What the device holds, where nothing refuses the space; else the first reason.
-    fn admitted(&self, creation: &SpaceCreation) -> Result<DeviceContent, Answer>
-        ensures refused { IfErr result (λ answer. space_refusal creation.now (site_of self.now) ≡ Some answer) }
-        ensures admitted { IfOk result (λ d. IsAdmitted self.now creation.now d) }
+    // The first reason of the words, or of the site, not to make the space; those of its table come after it.
+    fn creation_fault(&self, creation: &SpaceCreation) -> Option<Answer>
+        ensures refused { IfSome result (λ answer. space_refusal creation.now (site_of self.now) ≡ Some answer) }
+        ensures allowed { IfNone result (IsAllowed creation.now self.now) }
     {
         if creation.dev != 0 {
-            return Err(Answer::Device(DeviceAnswer::NoDevice));
+            return Some(Answer::Device(DeviceAnswer::NoDevice));
         }
-        let Some(content) = self.content else {
-            return Err(Answer::Device(DeviceAnswer::NotCreated));
+        let Some(disk) = &self.disk else {
+            return Some(Answer::Device(DeviceAnswer::NotCreated));
         };
-        if self.is_named(&creation.name) {
-            return Err(Answer::Space(SpaceAnswer::Taken));
+        if disk.entry_named(&creation.name).is_some() {
+            return Some(Answer::Space(SpaceAnswer::Taken));
         }
         if let Some(field) = field_refused(creation) {
-            return Err(Answer::Device(DeviceAnswer::Range(field)));
+            return Some(Answer::Device(DeviceAnswer::Range(field)));
         }
-        match pages_refusal(&content, &self.file, creation) {
-            Some(refusal) => Err(refusal),
-            None => Ok(content),
+        let pages = pages_of(creation);
+        if pages.pages <= pages.overhead {
+            return Some(Answer::Space(SpaceAnswer::Small(pages)));
         }
+        None
     }
 
-    // Makes a space, where nothing refuses it. All memory is taken before the device is written to.
-    fn make_space<H: Host>(
+    // Makes the pages of a space that has its place, and enters it. Takes no memory.
+    fn enter_space<H: Host>(
         &mut self,
         alloc: Global,
         host: &mut H,
-        content: &DeviceContent,
         creation: &SpaceCreation,
-    ) -> Result<Answer, Failure>
-        requires admitted { IsAdmitted self.old creation.now content.now }
+        reserved: Reserved,
+        map: PageMap,
+    ) -> Result<(), Failure>
         requires on { ImagesMatch self.old (H.view host.old) }
-        ensures served { IfOk result (IsServed (create_space creation.now (site_of self.old)) self.old self.new (H.view host.new)) }
+        requires place { HasPlace creation.now self.old (space_of reserved) }
+        requires map { map ≡ clusters_of (space_of reserved).extents }
+        requires enough { creation.now.pages ≤ page_count map }
+        ensures site { OnOk result (site_of self.new ≡ (create_space creation.now (site_of self.old)).site) }
+        ensures next { OnOk result (next_of self.new ≡ next_of self.old) }
+        ensures images { OnOk result (ImagesMatch self.new (H.view host.new)) }
         ensures stop { ChangesOnce (create_space creation.now (site_of self.old)) self.old (H.view host.old) (H.view host.new) }
         ensures failed { CountsFailure result (H.view host.old).faults (H.view host.new).faults }
-        ensures idle { durable (create_space creation.now (site_of self.old)).site ≡ durable (site_of self.old) → host.new ≡ host.old }
     {
+        let Some(disk) = self.disk.take() else {
+            unreachable!()
+        };
+        let Disk {
+            table,
+            journal,
+            files,
+        } = disk;
+        let (mut table, mut files) = (table, files);
+        let Some(index) = lowest_unused(&files) else {
+            unreachable!()
+        };
         let shape = shape_of(creation);
-        let number = 8 * content.next_space;
-        let pages = pages_of(creation);
-        let map = space_map(alloc, shape.pages)?;
-        let entered = lay_out(host, content, creation.name, &shape, &map)?;
         let place = SpacePlace {
             dev: 0,
             pages: shape.pages,
-            site: content.site,
-            number,
+            site: table.site(),
+            number: 8 * reserved.ordinal(),
         };
-        *self = Manager {
-            content: Some(entered),
-            file: Some(SpaceFile::new(alloc, &place, map, &shape)),
-            next: self.next,
+        lay_out(host, &mut table, reserved, &shape, &map)?;
+        files[index] = Some(SpaceFile::new(alloc, &place, map, &shape));
+        let disk = Disk {
+            table,
+            journal,
+            files,
         };
-        Ok(Answer::Space(SpaceAnswer::Created(NewSpace { number, pages })))
+        self.disk = Some(disk);
+        Ok(())
     }
 
-    /// Makes a space on device 0, or says the first reason not to; a refusal calls no host. The device
-    /// grows first, then the space's pages are made, and then the table names it. All memory is taken
-    /// before the device is written to. Where a device failed, the devices stand for the site without
-    /// the space or with it; the manager is to be let go.
+    /// Makes a space on device 0, in its lowest free clusters, or says the first reason not to; a
+    /// refusal calls no host. The device grows first, then the space's pages are made, and then the
+    /// table names it. All memory is taken before the device is written to. Where a device failed, the
+    /// devices stand for the site without the space or with it; the manager is to be let go.
     pub fn create_space<H: Host>(
         &mut self,
         alloc: Global,
@@ -230,9 +234,91 @@ impl Manager {
         ensures failed { CountsFailure result (H.view host.old).faults (H.view host.new).faults }
         ensures idle { durable (create_space creation.now (site_of self.old)).site ≡ durable (site_of self.old) → host.new ≡ host.old }
     {
-        match self.admitted(creation) {
-            Err(refusal) => Ok(refusal),
-            Ok(content) => self.make_space(alloc, host, &content, creation),
+        if let Some(refusal) = self.creation_fault(creation) {
+            return Ok(refusal);
         }
+        let pages = pages_of(creation);
+        let Some(disk) = &self.disk else {
+            unreachable!()
+        };
+        let table = &disk.table;
+        let reserved = match table.reserve(alloc, creation.name, creation.pages as u32) {
+            Ok(reserved) => reserved,
+            Err(ReserveError::Taken) => return Ok(Answer::Space(SpaceAnswer::Taken)),
+            Err(ReserveError::TableFull) => return Ok(Answer::Space(SpaceAnswer::TableFull)),
+            Err(ReserveError::Lack(room)) => return Ok(Answer::Space(SpaceAnswer::Lack(room))),
+            Err(ReserveError::NoMemory) => return Err(Failure::Memory),
+        };
+        let map = reserved.map().copy(alloc)?;
+        let number = 8 * reserved.ordinal();
+        self.enter_space(alloc, host, creation, reserved, map)?;
+        Ok(Answer::Space(SpaceAnswer::Created(NewSpace { number, pages })))
+    }
+
+    // Drops the space of an entry, which has that ordinal.
+    fn drop_entry<H: Host>(
+        &mut self,
+        host: &mut H,
+        index: usize,
+        ordinal: u32,
+    ) -> Result<(), Failure>
+        requires on { ImagesMatch self.old (H.view host.old) }
+        requires there { HasEntryAt self.old index ordinal }
+        ensures dropped { OnOk result (IsServed (entry_dropped index (site_of self.old)) self.old self.new (H.view host.new) Answer.Done) }
+        ensures stop { ChangesOnce (entry_dropped index (site_of self.old)) self.old (H.view host.old) (H.view host.new) }
+        ensures failed { CountsFailure result (H.view host.old).faults (H.view host.new).faults }
+    {
+        let Some(disk) = self.disk.take() else {
+            unreachable!()
+        };
+        let Disk {
+            table,
+            journal,
+            files,
+        } = disk;
+        let (mut table, mut files) = (table, files);
+        table.drop_space(host, ordinal)?;
+        files[index] = None;
+        self.disk = Some(Disk {
+            table,
+            journal,
+            files,
+        });
+        Ok(())
+    }
+
+    /// Removes a space and its messages, or says the first reason not to; a refusal calls no host. Its
+    /// clusters are free afterwards, and no byte of it is read again. Takes no memory. Where a device
+    /// failed, the devices stand for the site with the space or without it; the manager is to be let go.
+    pub fn remove_space<H: Host>(
+        &mut self,
+        host: &mut H,
+        removal: &SpaceRemoval,
+    ) -> Result<Answer, Failure>
+        requires on { ImagesMatch self.old (H.view host.old) }
+        ensures served { IfOk result (IsServed (remove_space removal.now (site_of self.old)) self.old self.new (H.view host.new)) }
+        ensures stop { ChangesOnce (remove_space removal.now (site_of self.old)) self.old (H.view host.old) (H.view host.new) }
+        ensures failed { CountsFailure result (H.view host.old).faults (H.view host.new).faults }
+        ensures idle { durable (remove_space removal.now (site_of self.old)).site ≡ durable (site_of self.old) → host.new ≡ host.old }
+    {
+        let Some(disk) = &self.disk else {
+            return Ok(Answer::NoEntry);
+        };
+        let Some(index) = disk.entry_named(&removal.space) else {
+            return Ok(Answer::NoEntry);
+        };
+        let Some(file) = &disk.files[index] else {
+            unreachable!()
+        };
+        let messages = file.space().message_count();
+        if !removal.force && messages > 0 {
+            return Ok(Answer::Space(SpaceAnswer::NotEmpty(messages)));
+        }
+        let Some(entry) = &disk.table.entries()[index] else {
+            unreachable!()
+        };
+        let ordinal = entry.ordinal;
+        self.drop_entry(host, index, ordinal)?;
+        Ok(Answer::Done)
     }
 }

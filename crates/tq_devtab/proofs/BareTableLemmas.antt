@@ -1,6 +1,6 @@
 -- A table of which no entry is used.
 use Rattle.std.proofs.Common.{◌≡◌, ◌<◌, ◌≤◌, ℕ, zero, suc, ◌+◌, ◌*◌, ◌&&◌, Bool, true, false, List, [], ◌∷◌, length, get_or, Option, Some, None, refl, sym, ◌∙◌, ap, arith}
-use Rattle.std.specs.Prelude.{◌==◌, nat_le, map, filter, cond, codes, drop, replicate, if◌then◌else◌}
+use Rattle.std.specs.Prelude.{◌==◌, nat_le, map, filter, cond, codes, replicate, if◌then◌else◌}
 use Rattle.std.specs.List.{list_all, sum_by}
 use Rattle.std.specs.Str.{bytes_eq}
 use Rattle.std.proofs.lemmas.Bool.{and_parts, and_from, eq-eqb, eqb-true, eqb-false, le-leb, leb-true}
@@ -8,7 +8,7 @@ use Rattle.std.proofs.lemmas.List.Sums.{sum_by-cons}
 use Rattle.tq_field.specs.Places.{run_at, number_at}
 use Rattle.tq_model.specs.Site.{last_space, table_entries, present}
 use Rattle.tq_model.specs.DeviceForm.{RawEntry, RawTable, raw_entry, raw_entries, raw_table, extents_at, extent_count, extents_start, table_bytes}
-use Rattle.tq_model.specs.Reading.{NamedSpace, named_in, is_used, is_single, used_entries, table_tests, hold_all}
+use Rattle.tq_model.specs.Reading.{NamedSpace, named_in, is_used, used_entries, table_tests, hold_all}
 
 abbrev pub are_unused : List RawEntry → Bool
 are_unused entries = list_all (λ (e : RawEntry). e.used == 0) entries
@@ -77,10 +77,6 @@ none_used (e ∷ entries) unused =
     let none = eqb-true e.used 0 parts.0 in
     ap (λ u. cond (u == 1) (e ∷ filter is_used entries) (filter is_used entries)) none ∙ none_used entries parts.1
 
-single_unused : (entries : List RawEntry) → are_unused entries ≡ true → list_all (λ (e : RawEntry). e.used == 0) (drop 1 entries) ≡ true
-single_unused [] unused = refl
-single_unused (e ∷ entries) unused = (and_parts (e.used == 0) (are_unused entries) unused).1
-
 none_named : (n at extents : ℕ) (image : List ℕ) → are_unused (raw_entries n at extents image) ≡ true
     → map named_in (raw_entries n at extents image) ≡ replicate n None
 unfolding raw_entries
@@ -117,7 +113,6 @@ no_extents (suc n) at extents image unused =
 pub record IsBare (t : RawTable) : Type 0 where
   pub tests : hold_all (table_tests t) ≡ true
   pub none : used_entries t ≡ []
-  pub single : is_single t ≡ true
   pub entries : map named_in t.entries ≡ replicate table_entries None
 
 abbrev pub is_marked : ℕ → List ℕ → Bool
@@ -136,7 +131,6 @@ bare at image mark next unused =
     record {
       tests = λ i. mark i && (next i && (few i && (within i && true)));
       none = none_used t.entries unused;
-      single = single_unused t.entries unused;
       entries = none_named table_entries (at + 32) (at + extents_start) image unused;
     }
 

@@ -12,7 +12,7 @@ use Rattle.tq_field.proofs.Runs.{get_or-run_at}
 use Rattle.tq_host.specs.Calls.{IsPulled}
 use Rattle.tq_host.proofs.Bytes.{before_or_after}
 use Rattle.tq_model.specs.Site.{least_clusters, most_clusters, table_entries}
-use Rattle.tq_model.specs.DeviceForm.{RawHeader, RawJournal, Journal, raw_header, raw_journal, journal_read, journal_base, journal_after, chosen, header_bytes, page_bytes, extents_start, open_gate, journal_log_bytes, table_a, table_b, journal_a, journal_b}
+use Rattle.tq_model.specs.DeviceForm.{RawHeader, RawJournal, Journal, raw_header, raw_journal, journal_read, journal_base, journal_after, chosen, header_bytes, page_bytes, extents_start, journal_log_bytes, table_a, table_b, journal_a, journal_b}
 use Rattle.tq_model.specs.Reading.{header_tests, hold_all, has_epochs}
 use Rattle.tq_devtab.specs.Device.{HasPart, IsBlankOr, first_journal, new_part}
 use Rattle.tq_devtab.specs.Made.{IsHeaderStart, IsBaseStart, IsJournalStart, made_byte, IsMadeTo, IsPaged, IsLaidOut}
@@ -101,8 +101,7 @@ journal_tested j mark epoch decided shut =
     λ i. bytes_eq (mark i) (codes "TQSJ")
     && (nat_le (decided i) 1
     && (unwrap_or (option_map has_epochs (read i)) false
-    && (unwrap_or (option_map (λ (k : Journal). not (is_some k.decision)) (read i)) false
-    && (not (shut i == open_gate) && true))))
+    && (unwrap_or (option_map (λ (k : Journal). not (is_some k.decision)) (read i)) false && true)))
 
 -- a new device has the journal, or none
 record HasNewJournal (own : Bool) (j : RawJournal) : Type 0 where
@@ -180,7 +179,11 @@ module _ (place site clusters : ℕ) (h t j : List ℕ) (header : IsHeaderStart 
         let k = i - journal_a in
         let e : i ≡ journal_a + k = omega arith in
         made i (omega arith) ∙ ap (made_byte h t j) e ∙ made_high h t j k ∙ journal.later later k;
-    first = record { table = unsaid 512 (omega arith) (omega arith); journal = unsaid 513 (omega arith) (omega arith) };
+    first = record {
+      table = unsaid 512 (omega arith) (omega arith);
+      journal = unsaid 513 (omega arith) (omega arith);
+      shut = made (journal_a + page_bytes) (omega arith) ∙ made_high h t j page_bytes ∙ get_or_past j page_bytes 0 (omega (arith, journal.size));
+    };
   }
     where
       unsaid : (i : ℕ) → 20 ≤ i → i < table_a → get_or image i 0 ≡ 0

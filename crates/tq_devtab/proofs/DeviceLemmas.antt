@@ -1,13 +1,12 @@
 -- A device without spaces: what it says depends on the bytes before the last one of its header alone.
-use Rattle.std.proofs.Common.{◌≡◌, ◌≤◌, ℕ, ◌+◌, ◌-◌, ◌*◌, ◌%◌, ◌&&◌, Bool, true, false, List, [], ◌∷◌, ◌++◌, length, get_or, None, sym, ◌∙◌, ap, arith}
+use Rattle.std.proofs.Common.{◌≡◌, ◌≤◌, ℕ, ◌+◌, ◌-◌, ◌*◌, ◌%◌, Bool, true, false, List, [], ◌∷◌, ◌++◌, length, get_or, None, sym, ◌∙◌, ap, arith}
 use Rattle.std.specs.Prelude.{◌==◌, map, codes, if◌then◌else◌}
-use Rattle.std.specs.List.{list_all}
 use Rattle.std.specs.Str.{bytes_eq}
 use Rattle.std.proofs.lemmas.Bool.{and_parts, and_from}
 use Rattle.std.proofs.lemmas.List.Folds.{list_all-append}
 use Rattle.tq_model.specs.Site.{present, table_entries}
 use Rattle.tq_model.specs.DeviceForm.{RawHeader, RawEntry, RawJournal, raw_header, raw_table, raw_journal, journal_read, chosen, header_bytes, extents_start, table_a, table_b, journal_a, journal_b}
-use Rattle.tq_model.specs.Reading.{DevicePart, named_in, used_entries, header_tests, table_tests, entries_tests, journal_tests, is_single, lies_first, has_no_decision, has_empty_log, hold_all}
+use Rattle.tq_model.specs.Reading.{DevicePart, named_in, used_entries, header_tests, table_tests, entries_tests, journal_tests, has_no_decision, hold_all}
 use Rattle.tq_devtab.specs.Device.{HasPart, HasNoSpace, IsSameBelow}
 use Rattle.tq_devtab.proofs.SameByteLemmas.{run_kept, number_kept, header_kept, journal_kept}
 use Rattle.tq_devtab.proofs.BareTableLemmas.{IsBare, IsBareBytes, is_next, bare, bare_bytes, unused_from, unused_at}
@@ -16,13 +15,12 @@ use Rattle.tq_devtab.proofs.BareTableLemmas.{IsBare, IsBareBytes, is_next, bare,
 
 -- the tests of a journal, which device 0 alone has
 abbrev pub own_journal_tests : ℕ → RawJournal → List Bool
-own_journal_tests place j = if place == 0 then journal_tests j ++ (has_no_decision j ∷ has_empty_log j ∷ []) else []
+own_journal_tests place j = if place == 0 then journal_tests j ++ has_no_decision j ∷ [] else []
 
 abbrev tests_by : ℕ → RawHeader → List ℕ → List Bool
 tests_by place h image =
     let t = raw_table h.table image in
     header_tests place h ++ table_tests t ++ entries_tests t.next h.clusters (length image) (used_entries t)
-    ++ (is_single t ∷ list_all lies_first (used_entries t) ∷ [])
     ++ own_journal_tests place (raw_journal h.journal image)
 
 abbrev pub part_by : ℕ → RawHeader → List ℕ → DevicePart
@@ -56,23 +54,17 @@ tests_from place h image is =
     let t = raw_table h.table image in
     let table = bare_table place h image is in
     let entries : List RawEntry → List Bool = λ used. entries_tests t.next h.clusters (length image) used in
-    let built : List RawEntry → List Bool = λ used. is_single t ∷ list_all lies_first used ∷ [] in
     let a = join (header_tests place h) (table_tests t) is.header table.tests in
     let b = join (header_tests place h ++ table_tests t) (entries (used_entries t)) a (ap (λ used. hold_all (entries used)) table.none) in
-    let c = join (header_tests place h ++ table_tests t ++ entries (used_entries t)) (built (used_entries t)) b
-    (ap (λ used. hold_all (built used)) table.none ∙ (λ i. table.single i && true)) in
-    join (header_tests place h ++ table_tests t ++ entries (used_entries t) ++ built (used_entries t))
-    (own_journal_tests place (raw_journal h.journal image)) c is.journal
+    join (header_tests place h ++ table_tests t ++ entries (used_entries t)) (own_journal_tests place (raw_journal h.journal image)) b is.journal
 
 tests_of : (place : ℕ) (h : RawHeader) (image : List ℕ) → hold_all (tests_by place h image) ≡ true → present (part_by place h image).entries ≡ []
     → IsBareDevice place h image
 tests_of place h image all none =
     let t = raw_table h.table image in
     let entries = entries_tests t.next h.clusters (length image) (used_entries t) in
-    let built = is_single t ∷ list_all lies_first (used_entries t) ∷ [] in
-    let d = split (header_tests place h ++ table_tests t ++ entries ++ built) (own_journal_tests place (raw_journal h.journal image)) all in
-    let c = split (header_tests place h ++ table_tests t ++ entries) built d.0 in
-    let b = split (header_tests place h ++ table_tests t) entries c.0 in
+    let d = split (header_tests place h ++ table_tests t ++ entries) (own_journal_tests place (raw_journal h.journal image)) all in
+    let b = split (header_tests place h ++ table_tests t) entries d.0 in
     let a = split (header_tests place h) (table_tests t) b.0 in
     record { header = a.0; table = bare_bytes h.table image a.1 none; journal = d.1 }
 

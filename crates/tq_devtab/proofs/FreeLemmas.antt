@@ -88,9 +88,9 @@ ends_more extents i end d lt before size le rest =
     (ap (list_all (ends_by size)) (drop_more extents i d lt)
     ∙ and_from (ends_by size e) (list_all (ends_by size) (drop (i + 1) extents)) (le-leb (cluster_bytes * (e.first + e.count)) size parts.1) rest)
 
-pub end_most : (extents : List Extent) (i end : ℕ) (d : Extent) → i < length extents → end ≤ most_bytes → list_all (ends_by most_bytes) extents ≡ true
-    → ord_max nat_cmp end (cluster_bytes * ((get_or extents i d).first + (get_or extents i d).count)) ≤ most_bytes
-end_most extents i end d lt most all =
+pub end_least : (extents : List Extent) (i end size : ℕ) (d : Extent) → i < length extents → end ≤ size → list_all (ends_by size) extents ≡ true
+    → ord_max nat_cmp end (cluster_bytes * ((get_or extents i d).first + (get_or extents i d).count)) ≤ size
+end_least extents i end size d lt before all =
     let e = get_or extents i d in
-    max-below end (cluster_bytes * (e.first + e.count)) most_bytes most
-    (leb-true (cluster_bytes * (e.first + e.count)) most_bytes (all-get (ends_by most_bytes) extents i d all lt))
+    max-below end (cluster_bytes * (e.first + e.count)) size before
+    (leb-true (cluster_bytes * (e.first + e.count)) size (all-get (ends_by size) extents i d all lt))

@@ -1,9 +1,9 @@
 -- What a device with a table has, and steps after which it has the table still.
-use Rattle.std.proofs.Common.{◌≡◌, ◌≢◌, ◌⊎◌, ◌<◌, ◌≤◌, inl, inr, ⊎_elim, ℕ, ◌+◌, ◌*◌, ◌&&◌, Bool, true, List, ◌++◌, length, get_or, map, Some, None, refl, sym, ap, ◌∙◌, subst, arith}
+use Rattle.std.proofs.Common.{◌≡◌, ◌≢◌, ◌⊎◌, ◌<◌, ◌≤◌, inl, inr, ⊎_elim, ℕ, ◌+◌, true, List, length, get_or, Some, None, sym, ap, ◌∙◌, subst, arith}
 use Rattle.std.specs.Prelude.{◌/◌}
 use Rattle.tq_field.specs.Places.{number_at}
 use Rattle.tq_model.specs.Site.{header_clusters, numbers_from, most_clusters}
-use Rattle.tq_model.specs.DeviceForm.{RawHeader, raw_header, raw_table, chosen, header_bytes, cluster_bytes, table_bytes, table_a, table_b, journal_a}
+use Rattle.tq_model.specs.DeviceForm.{RawHeader, raw_header, raw_table, chosen, header_bytes, cluster_bytes, table_a, table_b, journal_a}
 use Rattle.tq_model.specs.Reading.{NamedSpace, is_extent, header_tests, hold_all}
 use Rattle.tq_extent.specs.Bytes.{reaches, ShareNone, OnBytes}
 use Rattle.tq_extent.specs.Clusters.{clusters_of}

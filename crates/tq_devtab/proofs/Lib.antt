@@ -17,12 +17,14 @@ pub mod OwnerLemmas
 pub mod KeptLemmas
 pub mod FreeLemmas
 pub mod ReserveLemmas
+pub mod JoinedLemmas
 pub mod SameTableLemmas
 pub mod TableImageLemmas
 pub mod ReservedLemmas
 pub mod PlaceLemmas
 pub mod StoreLemmas
 pub mod HeaderLemmas
+pub mod LongerLemmas
 pub mod LoadLemmas
 pub mod ErasingLemmas
 pub mod NewTableLemmas

@@ -1,9 +1,8 @@
 -- The header and the table of an image, by what was read of them.
-use Rattle.std.proofs.Common.{◌≡◌, ◌<◌, ◌≤◌, ◌&&◌, ℕ, ◌+◌, Bool, true, false, List, [], ◌++◌, length, get_or, map, Option, Some, None, refl, sym, ap, ◌∙◌, subst, arith}
+use Rattle.std.proofs.Common.{◌≡◌, ◌≤◌, ◌&&◌, ℕ, ◌+◌, Bool, true, false, List, [], ◌++◌, length, get_or, map, Option, Some, None, refl, sym, ap, ◌∙◌, subst, arith}
 use Rattle.std.specs.Prelude.{nat_lt}
 use Rattle.std.specs.Option.{option_map}
 use Rattle.std.proofs.lemmas.Bool.{and_parts, false_from_ne_true}
-use Rattle.std.proofs.lemmas.Bool.Decides.{nat_tests}
 use Rattle.std.proofs.lemmas.List.Folds.{list_all-append}
 use Rattle.std.proofs.lemmas.Option.{none-some}
 use Rattle.tq_field.specs.Places.{run_at}
@@ -11,23 +10,22 @@ use Rattle.tq_field.specs.GatedLog.{log_reading}
 use Rattle.tq_field.proofs.Runs.{length-run_at, get_or-run_at}
 use Rattle.tq_host.specs.Calls.{HasBytesAt}
 use Rattle.tq_extent.specs.Bytes.{owned_bytes}
-use Rattle.tq_extent.proofs.BytesLemmas.{header-owned, header_reached, length-owned}
+use Rattle.tq_extent.proofs.BytesLemmas.{header_reached, length-owned}
 use Rattle.tq_model.specs.Site.{header_clusters, least_clusters, most_clusters, numbers_from}
 use Rattle.tq_model.specs.DeviceForm.{raw_header, raw_table, header_bytes, table_bytes, table_a, table_b, chosen}
 use Rattle.tq_model.specs.Reading.{NamedSpace, named_in, header_tests, table_tests, entries_tests, used_entries, hold_all}
 use Rattle.tq_gate.specs.declared.layout.Layout.{Layout}
 use Rattle.tq_gate.specs.Layout.{first_area, layout_end}
 use Rattle.tq_gate.specs.Reading.{Content, content_on, area_of, base_in, log_in}
-use Rattle.tq_gate.proofs.Contents.{holds_of, content_in, fits_some}
+use Rattle.tq_gate.proofs.Contents.{content_in, fits_some}
 use Rattle.tq_gate.proofs.Readings.{reading_shut}
 use Rattle.tq_devtab.specs.declared.header.Header.{Header}
 use Rattle.tq_devtab.specs.Table.{base_tests, IsTable}
 use Rattle.tq_devtab.specs.Volume.{HasTable, table_layout, place_asked, is_volume, volume_tests}
 use Rattle.tq_devtab.specs.Header.{HasHeader, header_holds, part_with}
-use Rattle.tq_devtab.proofs.SameByteLemmas.{same_runs}
 use Rattle.tq_devtab.proofs.SameTableLemmas.{SaysTable, says_holds, holds_says, says_same}
 use Rattle.tq_devtab.proofs.SpellingLemmas.{spellable}
-use Rattle.tq_devtab.proofs.TableImageLemmas.{clusters_within, either_area, byte_is, area_is, base_read, parts_has}
+use Rattle.tq_devtab.proofs.TableImageLemmas.{clusters_within, either_area, area_is, parts_has}
 
 -- Where the table lies
 

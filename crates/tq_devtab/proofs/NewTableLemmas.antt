@@ -1,11 +1,10 @@
 -- The table of a device that was just made.
-use Rattle.std.proofs.Common.{◌≡◌, ◌<◌, ℕ, List, [], ◌∷◌, ◌++◌, true, replicate, Some, None, refl, sym, ap, subst, arith}
+use Rattle.std.proofs.Common.{◌≡◌, ◌<◌, ℕ, List, [], true, replicate, Some, None, refl, sym, ap, subst, arith}
 use Rattle.tq_extent.specs.Bytes.{reaches}
 use Rattle.tq_extent.proofs.BytesLemmas.{header_reached}
 use Rattle.tq_model.specs.Site.{table_entries}
-use Rattle.tq_model.specs.DeviceForm.{raw_header, raw_table, raw_journal}
-use Rattle.tq_model.specs.Reading.{DevicePart, is_single, lies_first, used_entries}
-use Rattle.std.specs.List.{list_all}
+use Rattle.tq_model.specs.DeviceForm.{raw_header, raw_journal}
+use Rattle.tq_model.specs.Reading.{DevicePart}
 use Rattle.tq_gate.specs.declared.layout.Layout.{Layout}
 use Rattle.tq_gate.specs.declared.log.GateLog.{GateLog}
 use Rattle.tq_gate.specs.Layout.{IsLaidOut, clusters_of, bytes_in, first_area}
@@ -30,12 +29,10 @@ pub part_has_table : (place site clusters : ℕ) (image : List ℕ) → HasPart 
     → HasTable place (new_table site clusters) image
 part_has_table place site clusters image has =
     let h = raw_header image in
-    let t = raw_table h.table image in
-    let built = is_single t ∷ list_all lies_first (used_entries t) ∷ [] in
-    let both = split (volume_tests place image ++ built) (own_journal_tests place (raw_journal h.journal image)) has.tests in
+    let both = split (volume_tests place image) (own_journal_tests place (raw_journal h.journal image)) has.tests in
     record {
       size = has.size;
-      tests = (split (volume_tests place image) built both.0).0;
+      tests = both.0;
       part = ap (λ (d : DevicePart). record { site = d.site; clusters = d.clusters; next_space = d.next_space; entries = d.entries }) has.part;
     }
 

@@ -1,17 +1,17 @@
 -- The lowest free clusters of a table, and a space that is reserved there.
-use Rattle.std.proofs.Common.{◌≡◌, ◌≤◌, ℕ, zero, suc, ◌+◌, ◌-◌, ◌*◌, ◌&&◌, true, List, [], ◌∷◌, length, Option, refl, sym, ap, ◌∙◌, arith}
+use Rattle.std.proofs.Common.{◌≡◌, ◌≤◌, ℕ, zero, suc, ◌+◌, ◌*◌, ◌&&◌, true, List, [], ◌∷◌, length, refl, sym, ap, ◌∙◌, arith}
 use Rattle.std.specs.Prelude.{nat_le, nat_lt}
-use Rattle.std.specs.List.{list_all, flat_map, sum_by}
+use Rattle.std.specs.List.{list_all}
 use Rattle.std.proofs.lemmas.Bool.{and_parts, leb-true, le-leb, ltb-true}
 use Rattle.std.proofs.lemmas.List.Folds.{list_all-append}
 use Rattle.tq_model.specs.declared.answer.Extent.{Extent}
-use Rattle.tq_model.specs.Site.{Volume, present, header_clusters, most_clusters, clusters_for, numbers_from, as_extents}
+use Rattle.tq_model.specs.Site.{header_clusters, most_clusters, clusters_for, numbers_from, as_extents}
 use Rattle.tq_model.specs.DeviceForm.{cluster_bytes}
 use Rattle.tq_model.specs.Reading.{NamedSpace}
-use Rattle.tq_extent.specs.Clusters.{new_clusters, free_in, clusters_of, can_claim}
-use Rattle.tq_extent.proofs.ExtentLemmas.{length-clusters_of, clusters_of-as_extents}
+use Rattle.tq_extent.specs.Clusters.{new_clusters, clusters_of, can_claim}
+use Rattle.tq_extent.proofs.ExtentLemmas.{clusters_of-as_extents}
 use Rattle.tq_extent.proofs.ClusterLemmas.{length-with_mark, lowest-free, lowest-distinct}
-use Rattle.tq_extent.proofs.CountLemmas.{length-free_in, length-new, is_of-new, free_count-is, claimed_mappable}
+use Rattle.tq_extent.proofs.CountLemmas.{length-new, claimed_mappable}
 use Rattle.tq_devtab.specs.Table.{IsTable, AreFree, extents_of, owned_by, with_entry}
 use Rattle.tq_devtab.specs.Volume.{TablePart, IsReserved, free_of, lowest_of, most_bytes}
 use Rattle.tq_devtab.proofs.ListLemmas.{all-weaker}
@@ -33,7 +33,7 @@ run-end first (suc (suc count)) size some reach =
     let rest = run-end (first + 1) (suc count) size (omega arith) (and_parts (test first) (list_all test (numbers_from (first + 1) (suc count))) reach).1 in
     omega arith
 
-ends-reached : (size : ℕ) (extents : List Extent) → list_all (λ (e : Extent). nat_le 1 e.count) extents ≡ true → ReachIn size (clusters_of extents)
+pub ends-reached : (size : ℕ) (extents : List Extent) → list_all (λ (e : Extent). nat_le 1 e.count) extents ≡ true → ReachIn size (clusters_of extents)
     → list_all (λ (e : Extent). nat_le (cluster_bytes * (e.first + e.count)) size) extents ≡ true
 ends-reached size [] some reach = refl
 ends-reached size (e ∷ extents) some reach =

@@ -76,10 +76,10 @@ view-set (None ∷ entries) (suc i) e = ap (λ (l : List (Option NamedSpace)). N
 view-set (Some x ∷ entries) (suc i) e = ap (λ (l : List (Option NamedSpace)). Some (entry_view x) ∷ l) (view-set entries i e)
 
 module _ (t : DeviceTable) where
-  abbrev views : List (Option NamedSpace)
+  abbrev pub views : List (Option NamedSpace)
   views = entries_view t.entries.items
 
-  least : header_clusters ≤ t.clusters
+  pub least : header_clusters ≤ t.clusters
   least = omega (arith, t.least)
 
   -- where nothing is pending, what is read is what each image has

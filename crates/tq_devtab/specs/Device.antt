@@ -38,10 +38,11 @@ HasNoSpace d = present d.entries ≡ []
 abbrev pub HasNoJournal : List ℕ → Type 0
 HasNoJournal image = (i : ℕ) → journal_a ≤ i → i < journal_b + (page_bytes + journal_log_bytes) → get_or image i 0 ≡ 0
 
--- both selectors of the header choose area A, by a zero
+-- both selectors of the header choose area A, by a zero, and the log of the journal there is shut
 pub record HasFirstAreas (image : List ℕ) : Type 0 where
   pub table : get_or image 512 0 ≡ 0
   pub journal : get_or image 513 0 ≡ 0
+  pub shut : get_or image (journal_a + page_bytes) 0 ≡ 0
 
 -- the same bytes before this address
 abbrev pub IsSameBelow : ℕ → List ℕ → List ℕ → Type 0

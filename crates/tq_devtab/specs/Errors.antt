@@ -9,6 +9,8 @@ use Rattle.tq_devtab.specs.declared.error.TableError.{TableError}
 use Rattle.tq_devtab.specs.declared.error.TableError.TheVariants as errors
 use Rattle.tq_devtab.specs.declared.error.ReserveError.{ReserveError}
 use Rattle.tq_devtab.specs.declared.error.ReserveError.TheVariants.{Taken, TableFull, Lack, NoMemory}
+use Rattle.tq_devtab.specs.declared.error.ExtendError.{ExtendError}
+use Rattle.tq_devtab.specs.declared.error.ExtendError.TheVariants as extend
 use Rattle.tq_devtab.specs.Volume.{TablePart, free_of, has_named}
 
 abbrev pub error_of_gate : GateError → TableError
@@ -34,3 +36,9 @@ IsRefusal d name pages Taken = has_named name d ≡ true
 IsRefusal d name pages TableFull = (has_named name d ≡ false) × IsFull d
 IsRefusal d name pages (Lack room) = (has_named name d ≡ false) × HasRoom d × (free_of d < clusters_for pages) × (room ≡ record { need = clusters_for pages; free = free_of d })
 IsRefusal d name pages NoMemory = (has_named name d ≡ false) × HasRoom d × (clusters_for pages ≤ free_of d)
+
+-- why a space does not get so many clusters more where so many are free
+abbrev pub IsShort : ℕ → ℕ → ExtendError → Type 0
+IsShort need free (extend.Lack room) = (free < need) × (room ≡ record { need = need; free = free })
+IsShort need free extend.Device = need ≤ free
+IsShort need free extend.NoMemory = need ≤ free

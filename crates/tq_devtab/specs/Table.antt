@@ -78,6 +78,17 @@ changed_entry ordinal change (Some n ∷ entries) = if n.ordinal == ordinal then
 abbrev pub without_entry : ℕ → List (Option NamedSpace) → List (Option NamedSpace)
 without_entry ordinal entries = changed_entry ordinal (λ n. None) entries
 
+-- a device of so many bytes reaches to the end of these extents
+abbrev pub AreReached : ℕ → List Extent → Type 0
+AreReached size extents = list_all (λ (e : Extent). nat_le (cluster_bytes * (e.first + e.count)) size) extents ≡ true
+
+abbrev pub no_extent : Extent
+no_extent = record { first = 0; count = 0 }
+
+-- two extents of which the one ends where the other begins
+abbrev pub as_one : Extent → Extent → Extent
+as_one e x = record { first = e.first; count = e.count + x.count }
+
 -- extents with further ones behind them; where the last and the first further one are adjacent, the two are one
 abbrev pub joined_extents : List Extent → List Extent → List Extent
 joined_extents [] more = more

@@ -1,5 +1,5 @@
 -- What the header and the table of a device say, in an image of it.
-use Rattle.std.specs.Prelude.{◌≡◌, ◌⊎◌, ℕ, ◌+◌, ◌-◌, ◌<◌, ◌≤◌, ◌&&◌, nat_lt, not, Bool, true, List, ◌++◌, length, get_or, set, map, max, replicate, take, Option, Some, None}
+use Rattle.std.specs.Prelude.{◌≡◌, ◌⊎◌, ℕ, ◌+◌, ◌*◌, ◌-◌, ◌<◌, ◌≤◌, ◌&&◌, nat_lt, not, Bool, true, List, ◌++◌, length, map, replicate, take, Option, Some, None}
 use Rattle.std.specs.List.{list_all, sum_by}
 use Rattle.std.specs.Str.{bytes_eq}
 use Rattle.tq_extent.specs.Bytes.{OnBytes}
@@ -10,9 +10,10 @@ use Rattle.tq_gate.specs.Log.{IsSameBeside}
 use Rattle.tq_model.specs.declared.answer.Extent.{Extent}
 use Rattle.tq_model.specs.Names.{is_name}
 use Rattle.tq_model.specs.Site.{header_clusters, numbers_from, present, table_entries, last_space, most_pages, clusters_for, as_extents}
-use Rattle.tq_model.specs.DeviceForm.{raw_header, raw_table, header_bytes, table_a, journal_a}
+use Rattle.tq_model.specs.DeviceForm.{raw_header, raw_table, cluster_bytes, header_bytes}
 use Rattle.tq_model.specs.Reading.{NamedSpace, named_in, header_tests, table_tests, entries_tests, used_entries, hold_all}
-use Rattle.tq_devtab.specs.Table.{owned_by, with_entry, without_entry, changed_entry, longer_space}
+use Rattle.tq_devtab.specs.Device.{IsLonger}
+use Rattle.tq_devtab.specs.Table.{changed_entry, longer_space, owned_by, with_entry, without_entry}
 
 -- the bytes of a device with the most clusters
 abbrev pub most_bytes : ℕ
@@ -99,6 +100,29 @@ with_new n d = record d { next_space = d.next_space + 1; entries = with_entry n 
 abbrev pub without : ℕ → TablePart → TablePart
 without ordinal d = record d { entries = without_entry ordinal d.entries }
 
+-- how many clusters a space needs for so many pages more, beyond those that it has
+abbrev pub further_for : ℕ → NamedSpace → ℕ
+further_for pages n = clusters_for (n.pages + pages) - clusters_for n.pages
+
+-- the lowest so many free clusters
+abbrev pub further_extents : ℕ → NamedSpace → TablePart → List Extent
+further_extents pages n d = as_extents (lowest_of (further_for pages n) d)
+
+-- the table where the space of that ordinal has so many pages more, and its further clusters behind the others
+abbrev pub with_longer : ℕ → ℕ → TablePart → TablePart
+with_longer ordinal pages d =
+    record d { entries = changed_entry ordinal (λ n. Some (longer_space (n.pages + pages) (further_extents pages n d) n)) d.entries }
+
 -- The old table, or the new one and outside the table all that was read.
 abbrev pub IsTableOrNext : ℕ → ℕ → TablePart → TablePart → List ℕ → List ℕ → Type 0
 IsTableOrNext dev place d next read image = HasTable place d image ⊎ (HasTable place next image × IsSameButTable dev read image)
+
+-- More bytes behind the others, up to this size, or none; and then the same outside the table.
+pub record IsLongerButTable (dev size : ℕ) (old new : List ℕ) : Type 0 where
+  pub between : List ℕ
+  pub longer : IsLonger size old between
+  pub outside : IsSameButTable dev between new
+
+-- The old table, or the new one and outside the table all that was read, with more bytes behind it or none.
+abbrev pub IsTableOrLonger : ℕ → ℕ → TablePart → TablePart → List ℕ → List ℕ → Type 0
+IsTableOrLonger dev place d next read image = HasTable place d image ⊎ (HasTable place next image × IsLongerButTable dev (cluster_bytes * d.clusters) read image)

@@ -1,16 +1,17 @@
-//! Why a table is not read or made, and why a space gets no place in one.
+//! Why a table is not read or made, and why a space gets no place in one, or no more pages.
 
 ghost use Rattle.std.specs.Prelude.{◌≡◌};
 ghost use Rattle.tq_devtab.specs.Errors.{error_of_gate, error_of_take};
 ghost use Rattle.tq_devtab.specs.declared.error.TableError.TheVariants as error;
 ghost use Rattle.tq_devtab.specs.declared.error.CreationError.TheVariants as creation_error;
 ghost use Rattle.tq_devtab.specs.declared.error.ReserveError.TheVariants as reserve_error;
+ghost use Rattle.tq_devtab.specs.declared.error.ExtendError.TheVariants as extend_error;
 
 use std::alloc::AllocError;
 use thiserror::Error;
 use tq_extent::TakeError;
 use tq_gate::GateError;
-use tq_host::Failed;
+use tq_host::{Device, Failed};
 use tq_model::ClusterRoom;
 
 /// Why a table is not read.
@@ -108,5 +109,40 @@ impl From<TakeError> for ReserveError {
             TakeError::Lack(room) => ReserveError::Lack(room),
             TakeError::NoMemory => ReserveError::NoMemory,
         }
+    }
+}
+
+/// Why a space gets no more pages.
+#[derive(Clone, Copy, Debug, Drop, PartialEq, Eq, Error)]
+pub enum ExtendError {
+    #[error("{} clusters are needed and {} are free", .0.need, .0.free)]
+    Lack(ClusterRoom),
+    #[error("a device failed")]
+    Device,
+    #[error("there is no memory")]
+    NoMemory,
+}
+
+impl From<AllocError> for ExtendError {
+    ghost from_gives = { λ _ e. e ≡ extend_error.NoMemory };
+
+    fn from(_no_memory: AllocError) -> ExtendError {
+        ExtendError::NoMemory
+    }
+}
+
+impl From<Failed> for ExtendError {
+    ghost from_gives = { λ _ e. e ≡ extend_error.Device };
+
+    fn from(_failed: Failed) -> ExtendError {
+        ExtendError::Device
+    }
+}
+
+impl From<Device> for ExtendError {
+    ghost from_gives = { λ _ e. e ≡ extend_error.Device };
+
+    fn from(_failed: Device) -> ExtendError {
+        ExtendError::Device
     }
 }

@@ -1,11 +1,12 @@
 //! The extents of a table, read and judged.
 
-ghost use Rattle.std.specs.Prelude.{◌≡◌, ◌+◌, ◌*◌, ◌≤◌, ◌<◌, ◌^◌, length, IfOk};
+ghost use Rattle.std.specs.Prelude.{◌≡◌, ◌+◌, ◌*◌, ◌≤◌, ◌<◌, ◌^◌, ℕ, length, IfOk};
 ghost use Rattle.std.specs.List.{list_all, sum_by};
 ghost use Rattle.tq_model.specs.Site as site;
 ghost use Rattle.tq_model.specs.DeviceForm.{extents_at, cluster_bytes};
 ghost use Rattle.tq_model.specs.Reading as reading;
 ghost use Rattle.tq_model.specs.declared.answer.Extent.{Extent};
+ghost use Rattle.tq_devtab.specs.Table.{AreReached};
 ghost use Rattle.tq_devtab.specs.TableParts as parts;
 
 use crate::bytes::short;
@@ -59,10 +60,22 @@ fn cluster_count(extents: &[Extent]) -> u64
 }
 
 /// The bytes that a device has to have so that it reaches to the end of an extent.
-pub(crate) fn extent_end(extent: Extent) -> u64
+fn extent_end(extent: Extent) -> u64
     ensures { result ≡ cluster_bytes * (extent.first + extent.count) }
 {
     CLUSTER_BYTES * (u64::from(extent.first) + u64::from(extent.count))
+}
+
+/// The bytes that a device has to have so that it reaches to the end of these extents.
+pub(crate) fn end_of(extents: &[Extent]) -> u64
+    ensures reach { (size : ℕ) → result ≤ size → AreReached size extents.now }
+    ensures least { (size : ℕ) → AreReached size extents.now → result ≤ size }
+{
+    let mut end = 0;
+    for extent in extents {
+        end = end.max(extent_end(*extent));
+    }
+    end
 }
 
 /// Whether each of these extents lies on a device of so many clusters and bytes.

@@ -11,7 +11,7 @@ ghost use Rattle.tq_devtab.specs.Table.{entry_view, entry_of};
 ghost use Rattle.tq_devtab.specs.Volume.{IsReserved, free_of, lowest_of, most_bytes};
 ghost use Rattle.tq_devtab.specs.Errors.{IsRefusal};
 
-use crate::extents::{HEADER_CLUSTERS, clusters_for, extent_end};
+use crate::extents::{HEADER_CLUSTERS, clusters_for, end_of};
 use crate::spaces::{has_named, has_unused, owned_clusters, with_ordinal};
 use crate::{DeviceTable, ReserveError, Reserved, TableEntry};
 use std::alloc::{AllocError, Global};
@@ -27,11 +27,7 @@ impl Reserved {
         ensures reach { (image : List ℕ) → result ≤ length image → reaches (clusters_of (space_of self.now).extents) image ≡ true }
         ensures most { result ≤ most_bytes }
     {
-        let mut end = 0;
-        for extent in self.entry.extents.as_slice() {
-            end = end.max(extent_end(*extent));
-        }
-        end
+        end_of(self.entry.extents.as_slice())
     }
 }
 
@@ -67,7 +63,7 @@ impl DeviceTable {
     }
 
     /// The lowest so many free clusters, which there have to be.
-    fn lowest_free(&self, alloc: Global, count: u32) -> Result<Extents, ReserveError>
+    pub(crate) fn lowest_free(&self, alloc: Global, count: u32) -> Result<Extents, ReserveError>
         requires enough { count ≤ free_of (part_of self.now) }
         ensures extents { IfOk result (λ extents. extents ≡ as_extents (lowest_of count (part_of self.now))) }
         ensures clusters { IfOk result (λ extents. length (clusters_of extents) ≡ count) }

@@ -3,6 +3,8 @@ pub mod QueueLists
 pub mod Limits
 pub mod SpaceSteps
 pub mod Tables
+pub mod Extents
 pub mod Sites
 pub mod CallLemmas
 pub mod NewNames
+pub mod Removals

@@ -1,5 +1,5 @@
--- A space that is refused nothing has a new name.
-use Rattle.std.proofs.Common.{◌≡◌, Bool, true, false, cond, refl, Option, Some, None}
+-- A space that is refused nothing has a new name, and its device is there.
+use Rattle.std.proofs.Common.{◌≡◌, ◌<◌, ltb-true, Bool, true, false, cond, refl, Option, Some, None}
 use Rattle.std.specs.Prelude.{is_some, nat_lt, length}
 use Rattle.tq_model.specs.declared.answer.Answer.TheVariants as answers
 use Rattle.tq_model.specs.declared.answer.DeviceAnswer.TheVariants.{NoDevice}
@@ -25,3 +25,11 @@ new-name c s =
       | true ↦ λ h. new-on c s (volume_of s c.dev) h
       | false ↦ λ h. cc
     ]
+
+-- its device is one of those that there are
+pub device-there : (c : SpaceCreation) (s : Site) → space_refusal c s ≡ None → c.dev < length s.devices
+device-there c s =
+    elim (nat_lt c.dev (length s.devices)) as (λ b. nat_lt c.dev (length s.devices) ≡ b → cond b (on_volume_refusal c s (volume_of s c.dev)) (Some (answers.Device NoDevice)) ≡ None → c.dev < length s.devices) [
+      | true ↦ λ is h. ltb-true c.dev (length s.devices) is
+      | false ↦ λ is h. cc
+    ] refl

@@ -10,9 +10,8 @@ use Rattle.std.proofs.lemmas.List.{at_drop_more, get_or_past, length-map, length
 use Rattle.std.proofs.lemmas.List.Concat.{flat_map-append}
 use Rattle.std.proofs.lemmas.List.Folds.{find-append}
 use Rattle.std.proofs.lemmas.List.Sums.{sum_by-cons, sum_by-append, sum_by-set, get_or-le-sum_by}
-use Rattle.tq_model.specs.Site.{SpaceOnDevice, Volume, present, has_name, spaces_on, on_spaces, changed_if}
-use Rattle.tq_model.specs.Parts.{table_with}
-use Rattle.tq_machine.specs.Tables.{AreSound, device_spaces, entry_of, entry_changed}
+use Rattle.tq_model.specs.Site.{SpaceOnDevice, Volume, table_entries, no_entries, present, has_name, spaces_on, on_spaces, changed_if, entry_beside, entries_with}
+use Rattle.tq_machine.specs.Tables.{AreSound, device_spaces, entry_of, entry_changed, without_named}
 use Rattle.tq_machine.proofs.Limits.{sum-map-most}
 use Rattle.tq_machine.proofs.Tables.{present-more}
 
@@ -197,49 +196,102 @@ set-count name ds dev d within = omega (arith, count-devices name (set ds dev d)
 sound-set : (ds : List (Option Volume)) (dev : ℕ) (d : Option Volume) → AreSound ds → (dev < length ds → AreSound (set ds dev d)) → AreSound (set ds dev d)
 sound-set ds dev d sound inside = ⊎_elim inside (λ past. subst AreSound (sym (set_past ds dev d past)) sound) (cases_lt dev (length ds))
 
+blank-none : {X : Type 0} (n : ℕ) → present (replicate n (let o : Option X = None in o)) ≡ []
+blank-none zero = refl
+blank-none (suc n) = blank-none n
+
 made-within : (clusters ordinal : ℕ) (ds : List (Option Volume)) (dev : ℕ) → AreSound ds → dev < length ds
-    → AreSound (set ds dev (Some (record { clusters = clusters; next_space = ordinal; entries = table_with None })))
+    → AreSound (set ds dev (Some (record { clusters = clusters; next_space = ordinal; entries = no_entries })))
 made-within clusters ordinal ds dev sound within =
-    let d : Option Volume = Some (record { clusters = clusters; next_space = ordinal; entries = table_with None }) in
+    let d : Option Volume = Some (record { clusters = clusters; next_space = ordinal; entries = no_entries }) in
     record {
       few = omega (arith, length-set ds dev d, sound.few);
-      names = λ name. let before = sound.names name in omega (arith, set-count name ds dev d within);
+      names = λ name.
+          let before = sound.names name in
+          let none : on_device name d ≡ 0 = ap (λ (ps : List SpaceOnDevice). count_by (has_name name) ps) (blank-none table_entries) in
+          omega (arith, set-count name ds dev d within);
     }
 
 -- a device without spaces in place of another
 pub sound-made : (clusters ordinal : ℕ) (ds : List (Option Volume)) (dev : ℕ) → AreSound ds
-    → AreSound (set ds dev (Some (record { clusters = clusters; next_space = ordinal; entries = table_with None })))
+    → AreSound (set ds dev (Some (record { clusters = clusters; next_space = ordinal; entries = no_entries })))
 sound-made clusters ordinal ds dev sound = sound-set ds dev _ sound (made-within clusters ordinal ds dev sound)
 
-placed-within : (clusters ordinal : ℕ) (p : SpaceOnDevice) (ds : List (Option Volume)) (dev : ℕ) → find (has_name p.name) (flat_map spaces_on (present ds)) ≡ None
-    → AreSound ds → dev < length ds → AreSound (set ds dev (Some (record { clusters = clusters; next_space = ordinal; entries = table_with (Some p) })))
-placed-within clusters ordinal p ds dev new sound within =
-    let d : Option Volume = Some (record { clusters = clusters; next_space = ordinal; entries = table_with (Some p) }) in
+-- a blank device in place of another
+pub sound-erased : (ds : List (Option Volume)) (dev : ℕ) → AreSound ds → AreSound (set ds dev None)
+sound-erased ds dev sound =
+    sound-set ds dev None sound (λ within. record {
+      few = omega (arith, length-set ds dev (let d : Option Volume = None in d), sound.few);
+      names = λ name. let before = sound.names name in omega (arith, set-count name ds dev None within);
+    })
+
+-- a space more is counted once
+abbrev once : List ℕ → SpaceOnDevice → ℕ
+once name p = cond (has_name name p) 1 0
+
+entered-count : (name : List ℕ) (p : SpaceOnDevice) (xs : List (Option SpaceOnDevice))
+    → count_by (has_name name) (present (entries_with p xs)) ≤ count_by (has_name name) (present xs) + once name p
+entered-count name p [] = omega arith
+entered-count name p (None ∷ xs) = omega (arith, sum_by-cons (λ q. cond (has_name name q) 1 0) p (present xs))
+entered-count name p (Some q ∷ xs) =
+    let rest = entered-count name p xs in
+    omega (arith, sum_by-cons (λ r. cond (has_name name r) 1 0) q (present xs), sum_by-cons (λ r. cond (has_name name r) 1 0) q (present (entries_with p xs)))
+
+placed-within : (v : Volume) (ordinal : ℕ) (p : SpaceOnDevice) (ds : List (Option Volume)) (dev : ℕ) → get_or ds dev None ≡ Some v
+    → find (has_name p.name) (flat_map spaces_on (present ds)) ≡ None → AreSound ds → dev < length ds
+    → AreSound (set ds dev (Some (record v { next_space = ordinal; entries = entries_with p v.entries })))
+placed-within v ordinal p ds dev is new sound within =
+    let d : Option Volume = Some (record v { next_space = ordinal; entries = entries_with p v.entries }) in
     record {
       few = omega (arith, length-set ds dev d, sound.few);
       names = λ name.
           let before = sound.names name in
           let all = set-count name ds dev d within in
+          let here : on_device name (get_or ds dev None) ≡ count_by (has_name name) (present v.entries) = ap (on_device name) is in
+          let more : on_device name d ≤ count_by (has_name name) (present v.entries) + once name p = entered-count name p v.entries in
           elim (bytes_eq p.name name) as (λ b. bytes_eq p.name name ≡ b → count_by (has_name name) (flat_map spaces_on (present (set ds dev d))) ≤ 1) [
-            | true ↦ λ is.
-                let same : p.name ≡ name = (bytes_eq-Decides p.name name).0 is in
+            | true ↦ λ same_name.
+                let same : p.name ≡ name = (bytes_eq-Decides p.name name).0 same_name in
                 let none : count_by (has_name name) (flat_map spaces_on (present ds)) ≡ 0 = subst (λ (n : List ℕ). count_by (has_name n) (flat_map spaces_on (present ds)) ≡ 0) same (none-counted (has_name p.name) (flat_map spaces_on (present ds)) new) in
-                let one : on_device name d ≡ 1 = ap (λ b. 0 + cond b 1 0) is in
+                let one : once name p ≡ 1 = ap (λ b. cond b 1 0) same_name in
                 omega arith
-            | false ↦ λ is.
-                let none : on_device name d ≡ 0 = ap (λ b. 0 + cond b 1 0) is in
+            | false ↦ λ other.
+                let none : once name p ≡ 0 = ap (λ b. cond b 1 0) other in
                 omega arith
           ] refl;
     }
 
 -- a space of a new name on a device
-pub sound-placed : (clusters ordinal : ℕ) (p : SpaceOnDevice) (ds : List (Option Volume)) (dev : ℕ) → find (has_name p.name) (flat_map spaces_on (present ds)) ≡ None
-    → AreSound ds → AreSound (set ds dev (Some (record { clusters = clusters; next_space = ordinal; entries = table_with (Some p) })))
-sound-placed clusters ordinal p ds dev new sound = sound-set ds dev _ sound (placed-within clusters ordinal p ds dev new sound)
+pub sound-placed : (v : Volume) (ordinal : ℕ) (p : SpaceOnDevice) (ds : List (Option Volume)) (dev : ℕ) → get_or ds dev None ≡ Some v
+    → find (has_name p.name) (flat_map spaces_on (present ds)) ≡ None → AreSound ds
+    → AreSound (set ds dev (Some (record v { next_space = ordinal; entries = entries_with p v.entries })))
+sound-placed v ordinal p ds dev is new sound = sound-set ds dev _ sound (placed-within v ordinal p ds dev is new sound)
 
-blank-none : (n : ℕ) → present (replicate n (let d : Option Volume = None in d)) ≡ []
-blank-none zero = refl
-blank-none (suc n) = blank-none n
+-- the spaces of a name are taken out
+beside-count : (name other : List ℕ) (xs : List (Option SpaceOnDevice)) → count_by (has_name name) (present (map (entry_beside other) xs)) ≤ count_by (has_name name) (present xs)
+beside-count name other [] = omega arith
+beside-count name other (None ∷ xs) = beside-count name other xs
+beside-count name other (Some q ∷ xs) =
+    let rest = beside-count name other xs in
+    let before = sum_by-cons (λ r. cond (has_name name r) 1 0) q (present xs) in
+    elim (has_name other q) as (λ b. count_by (has_name name) (present (cond b None (Some q) ∷ map (entry_beside other) xs)) ≤ count_by (has_name name) (present (Some q ∷ xs))) [
+      | true ↦ omega arith
+      | false ↦ omega (arith, sum_by-cons (λ r. cond (has_name name r) 1 0) q (present (map (entry_beside other) xs)))
+    ]
+
+without-count : (name other : List ℕ) (d : Option Volume) → on_device name (option_map (without_named other) d) ≤ on_device name d
+without-count name other None = omega arith
+without-count name other (Some v) = beside-count name other v.entries
+
+pub sound-without : (other : List ℕ) (ds : List (Option Volume)) → AreSound ds → AreSound (map (option_map (without_named other)) ds)
+sound-without other ds sound =
+    record {
+      few = omega (arith, length-map ds (option_map (without_named other)), sound.few);
+      names = λ name.
+          let most = sum-map-most (on_device name) (option_map (without_named other)) (without-count name other) ds in
+          let before = sound.names name in
+          omega (arith, count-devices name (map (option_map (without_named other)) ds), count-devices name ds);
+    }
 
 pub sound-blank : (n : ℕ) → n ≤ 8 → AreSound (replicate n None)
 sound-blank n few =

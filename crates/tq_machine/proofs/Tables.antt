@@ -1,14 +1,16 @@
 -- The spaces in a table.
-use Rattle.std.proofs.Common.{◌≡◌, ℕ, ◌+◌, ◌-◌, ◌<◌, true, false, cond, List, [], ◌∷◌, ◌++◌, map, take, get_or, length, refl, sym, ap, ◌∙◌, arith, Option, Some, None, length-append}
-use Rattle.std.specs.Prelude.{option_to_list, IsSome, MatchOption}
-use Rattle.std.specs.List.{find, position, sum_by}
-use Rattle.std.proofs.lemmas.List.{take_more, map-append}
+use Rattle.std.proofs.Common.{◌≡◌, ℕ, ◌+◌, ◌-◌, ◌<◌, true, false, cond, suc, List, [], ◌∷◌, ◌++◌, map, take, get_or, set, length, refl, sym, ap, ◌∙◌, arith, Option, Some, None, length-append}
+use Rattle.std.specs.Prelude.{◌==◌, option_to_list, IsSome, MatchOption}
+use Rattle.std.specs.List.{find, position, position_or_len, sum_by}
+use Rattle.std.proofs.lemmas.Bool.{eq-eqb, eqb-true}
+use Rattle.std.proofs.lemmas.List.{take_more, map-append, get_or-set_same, get_or-set_other, set_past}
 use Rattle.std.proofs.lemmas.List.Sums.{sum_by-append}
 use Rattle.std.proofs.lemmas.List.Quantifiers.{position-Some}
 use Rattle.std.proofs.lemmas.List.Elements.{filter_map-append}
-use Rattle.tq_model.specs.Site.{SpaceOnDevice, present, has_name}
-use Rattle.tq_machine.specs.Tables.{is_placed}
-use Rattle.tq_model.proofs.Places.{find-found, find-none, position-none}
+use Rattle.tq_model.specs.Site.{SpaceOnDevice, present, has_name, entries_with}
+use Rattle.tq_machine.specs.Tables.{is_placed, is_unused}
+use Rattle.tq_model.specs.Space.{change_first}
+use Rattle.tq_model.proofs.Places.{change_first-at, position-found, find-found, find-none, position-none}
 
 present-single : {X : Type 0} (o : Option X) → present (o ∷ []) ≡ option_to_list o
 present-single None = refl
@@ -65,3 +67,31 @@ pub lines-more : {Y : Type 0} (f : SpaceOnDevice → Y) (lines : List Y) (xs : L
     → lines ++ map f (option_to_list (get_or xs at d)) ≡ map f (present (take (at + 1) xs))
 lines-more f lines xs at d within is =
     ap (λ l. l ++ map f (option_to_list (get_or xs at d))) is ∙ sym (ap (map f) (present-more xs at d within) ∙ map-append f (present (take at xs)) (option_to_list (get_or xs at d)))
+
+-- a space is entered at the first place that is not used
+entered-first : (p : SpaceOnDevice) (xs : List (Option SpaceOnDevice)) → change_first is_unused (λ o. Some p) xs ≡ entries_with p xs
+entered-first p [] = refl
+entered-first p (None ∷ xs) = refl
+entered-first p (Some q ∷ xs) = ap (λ l. Some q ∷ l) (entered-first p xs)
+
+entered-place : (p : SpaceOnDevice) (xs : List (Option SpaceOnDevice)) → entries_with p xs ≡ set xs (position_or_len is_unused xs) (Some p)
+entered-place p xs = sym (entered-first p xs) ∙ change_first-at is_unused (λ o. Some p) None xs
+
+pub entered-at : (p : SpaceOnDevice) (xs : List (Option SpaceOnDevice)) (at : ℕ) → position is_unused xs ≡ Some at → set xs at (Some p) ≡ entries_with p xs
+entered-at p xs at is = sym (entered-place p xs ∙ ap (λ n. set xs n (Some p)) (position-found is_unused xs at is).0)
+
+pub entered-nowhere : (p : SpaceOnDevice) (xs : List (Option SpaceOnDevice)) → position is_unused xs ≡ None → entries_with p xs ≡ xs
+entered-nowhere p xs is = entered-place p xs ∙ set_past xs (position_or_len is_unused xs) (Some p) (position-none is_unused xs is)
+
+pub length-entries_with : (p : SpaceOnDevice) (xs : List (Option SpaceOnDevice)) → length (entries_with p xs) ≡ length xs
+length-entries_with p [] = refl
+length-entries_with p (None ∷ xs) = refl
+length-entries_with p (Some q ∷ xs) = ap suc (length-entries_with p xs)
+
+-- what stands in a list without one place
+pub beside-single : {X : Type 0} (xs : List (Option X)) (dev at : ℕ) (d : Option X) → at < length xs → length (option_to_list (cond (at == dev) None (get_or xs at d))) ≡ length (option_to_list (get_or (set xs dev None) at d))
+beside-single {X = X} xs dev at d within =
+    elim (at == dev) as (λ b. (at == dev) ≡ b → length (option_to_list (cond b None (get_or xs at d))) ≡ length (option_to_list (get_or (set xs dev None) at d))) [
+      | true ↦ λ is. let same = eqb-true at dev is in ap (λ (o : Option X). length (option_to_list o)) (sym (ap (λ n. get_or (set xs n None) at d) (sym same) ∙ get_or-set_same xs at None d within))
+      | false ↦ λ is. ap (λ (o : Option X). length (option_to_list o)) (sym (get_or-set_other xs dev at None d (λ same. let no = sym is ∙ eq-eqb at dev same in cc)))
+    ] refl

@@ -1,28 +1,25 @@
 //! A device that is created, and the spaces of its table.
 
 ghost use Rattle.std.specs.Prelude.{◌≡◌, ◌<◌, ◌≤◌, ◌+◌, ◌-◌, None, Some, IsSome, MatchOption, IfOk, OnOk, OnErr, length, map, option_map, option_to_list, ◌++◌, slice_index_or};
-ghost use Rattle.std.specs.List.{find, position, sum_by};
-ghost use Rattle.tq_model.specs.Site.{last_space, present, spaces_on, has_name, on_spaces, free_clusters, capacity_of, durable_space};
-ghost use Rattle.tq_model.specs.Step.{new_volume, space_line, is_table_full, placing_refusal, pages_refusal, pages_asked, placed_new, with_space_made, number_of};
-ghost use Rattle.tq_model.specs.Parts.{table_with, first_extents};
+ghost use Rattle.std.specs.List.{find, list_any, position, sum_by};
+ghost use Rattle.tq_model.specs.Site.{Site, last_space, no_entries, present, spaces_on, has_name, on_spaces, entry_beside, entries_with, is_taken, lowest_free, as_extents, free_clusters, capacity_of, durable_space};
+ghost use Rattle.tq_model.specs.Step.{new_volume, space_line, is_table_full, placing_refusal, pages_refusal, pages_asked, removal_refusal, with_space_made, number_of};
 ghost use Rattle.tq_machine.specs.SpaceCalls.{IsReply, after_call, logged_outcome};
 ghost use Rattle.tq_machine.specs.Fields.{HasFieldsWithin};
-ghost use Rattle.tq_machine.specs.Tables.{space_clusters, is_placed, entry_changed};
+ghost use Rattle.tq_machine.specs.Tables.{space_clusters, is_placed, is_unused, entry_changed, entry_covers, without_named};
 
+use crate::joining::{NO_RUN, close, join};
 use crate::placed::{HEADER_CLUSTERS, PlacedSpace, clusters_for, number_of, shape_asked};
 use crate::space_call::{Reply, SpaceCall};
 use std::alloc::{AllocError, Global};
 use std::marker::Model;
 use tq_model::{
-    Answer, Capacity, ClusterRoom, LAST_SPACE, NewSpace, SpaceAnswer, SpaceCreation, SpaceLines,
-    SpacePages, overhead_pages,
+    Answer, Capacity, ClusterRoom, Extents, LAST_SPACE, NewSpace, SpaceAnswer, SpaceCreation,
+    SpaceLines, SpacePages, overhead_pages,
 };
-use tq_types::{Arrival, Name};
+use tq_types::Name;
 
 const TABLE_ENTRIES: usize = 16;
-
-/// The entries of a table behind the first.
-const LATER_ENTRIES: usize = 15;
 
 /// A device that is created, and the 16 entries of its table.
 #[derive(Drop)]
@@ -51,7 +48,7 @@ impl CreatedDevice {
         Ok(CreatedDevice {
             clusters,
             next_space: 1,
-            entries: table(alloc, None)?,
+            entries: empty_table(alloc)?,
         })
     }
 
@@ -121,16 +118,39 @@ impl CreatedDevice {
         None
     }
 
-    /// Whether there is no place for a further space; for now a device takes one.
+    /// Whether there is no entry or no ordinal for a further space.
     fn is_table_full(&self) -> bool
         ensures { result ≡ is_table_full self.now }
     {
-        let count = self.space_count();
-        count > 0 || (count >= TABLE_ENTRIES || self.next_space >= LAST_SPACE)
+        self.space_count() >= TABLE_ENTRIES || self.next_space >= LAST_SPACE
     }
 
-    /// Makes a space on a device that has none: in its first entry and its first clusters. After an
-    /// `Err` the device is as it was.
+    /// Whether a space has that cluster.
+    fn is_taken(&self, cluster: u32) -> bool
+        ensures { result ≡ is_taken self.now cluster }
+    {
+        any_covers(&self.entries, cluster)
+    }
+
+    /// The lowest so many free clusters, or all where they are fewer.
+    fn lowest_free(&self, alloc: Global, n: u64) -> Result<Extents, AllocError>
+        ensures { IfOk result (λ extents. extents ≡ as_extents (lowest_free n self.now)) }
+    {
+        let mut extents = Extents::new(alloc);
+        let mut run = NO_RUN;
+        let mut left = n;
+        for cluster in HEADER_CLUSTERS..self.clusters {
+            if left > 0 && !self.is_taken(cluster) {
+                join(&mut extents, &mut run, cluster)?;
+                left -= 1;
+            }
+        }
+        close(&mut extents, run)?;
+        Ok(extents)
+    }
+
+    /// Makes a space in the lowest unused entry and the lowest free clusters. After an `Err` the
+    /// device is as it was.
     pub(crate) fn make_space(
         &mut self,
         alloc: Global,
@@ -138,26 +158,39 @@ impl CreatedDevice {
         site: u32,
     ) -> Result<Answer, AllocError>
         requires fields { HasFieldsWithin creation.now }
-        requires granted { pages_refusal creation.now self.old ≡ None }
         requires next { self.old.next_space < last_space }
         ensures answer { IfOk result (λ a. a ≡ Answer.Space
             (SpaceAnswer.Created (record { number = number_of creation.now.dev self.old.next_space; pages = pages_asked creation.now }))) }
         ensures device { OnOk result (self.new ≡ with_space_made creation.now site self.old) }
-        ensures alone { OnOk result (self.new ≡ record self.old {
-          next_space = self.old.next_space + 1;
-          entries = table_with
-              (Some (placed_new creation.now site self.old.next_space (first_extents creation.now.pages)));
-        }) }
         ensures unchanged { OnErr result (self.new ≡ self.old) }
     {
         let ordinal = self.next_space;
-        let placed = PlacedSpace::new(alloc, creation, site, ordinal)?;
-        self.entries = table(alloc, Some(placed))?;
+        let extents = self.lowest_free(alloc, clusters_for(creation.pages))?;
+        let placed = PlacedSpace::new(alloc, creation, site, ordinal, extents);
+        enter(&mut self.entries, placed);
         self.next_space = ordinal + 1;
         Ok(Answer::Space(SpaceAnswer::Created(NewSpace {
             number: number_of(creation.dev, ordinal),
             pages: pages_asked(creation),
         })))
+    }
+
+    /// Why the space of an entry may not be removed, if it may not.
+    pub(crate) fn removal_refusal(&self, entry: usize, force: bool) -> Option<Answer>
+        requires { IsSome (slice_index_or self.now.entries entry None) }
+        ensures { (s : Site) → MatchOption (slice_index_or self.now.entries entry None) ⊥ (λ p. result ≡ removal_refusal force s p) }
+    {
+        match &self.entries[entry] {
+            Some(placed) => placed.removal_refusal(force),
+            None => unreachable!(),
+        }
+    }
+
+    /// Takes out each space of that name.
+    pub(crate) fn remove(&mut self, name: &Name)
+        ensures { self.new ≡ without_named name.now self.old }
+    {
+        remove_all(&mut self.entries, name);
     }
 
     /// The entry of a space of that name.
@@ -183,16 +216,69 @@ impl CreatedDevice {
     }
 }
 
-/// A table of which the first entry alone may be used.
-fn table(alloc: Global, first: Option<PlacedSpace>) -> Result<Vec<Option<PlacedSpace>>, AllocError>
-    ensures { IfOk result (λ entries. entries.items ≡ table_with first) }
+/// A table of which no entry is used.
+fn empty_table(alloc: Global) -> Result<Vec<Option<PlacedSpace>>, AllocError>
+    ensures { IfOk result (λ entries. entries.items ≡ no_entries) }
 {
     let mut entries = Vec::new(alloc);
-    entries.push(first)?;
-    for _at in 0..LATER_ENTRIES {
+    for _at in 0..TABLE_ENTRIES {
         entries.push(None)?;
     }
     Ok(entries)
+}
+
+/// Puts a space into the first entry that is not used, if there is one.
+fn enter(entries: &mut [Option<PlacedSpace>], placed: PlacedSpace)
+    ensures { entries.new ≡ entries_with placed entries.old }
+{
+    if let Some(at) = place_unused(entries) {
+        entries[at] = Some(placed);
+    }
+}
+
+/// The first place that is not used.
+fn place_unused(entries: &[Option<PlacedSpace>]) -> Option<usize>
+    ensures { result ≡ position is_unused entries.now }
+{
+    entries.iter().position(is_unused)
+}
+
+fn is_unused(entry: &Option<PlacedSpace>) -> bool
+    ensures { result ≡ is_unused entry.now }
+{
+    entry.is_none()
+}
+
+fn any_covers(entries: &[Option<PlacedSpace>], cluster: u32) -> bool
+    ensures { result ≡ list_any (entry_covers cluster) entries.now }
+{
+    entries.iter().any(|entry| entry_covers(entry, cluster))
+}
+
+/// Whether the space of an entry has that cluster.
+fn entry_covers(entry: &Option<PlacedSpace>, cluster: u32) -> bool
+    ensures { result ≡ entry_covers cluster entry.now }
+{
+    match entry {
+        Some(placed) => placed.has_cluster(cluster),
+        None => false,
+    }
+}
+
+fn remove_all(entries: &mut [Option<PlacedSpace>], name: &Name)
+    ensures { entries.new ≡ map (entry_beside name.now) entries.old }
+{
+    for at in 0..entries.len() {
+        remove_entry(&mut entries[at], name);
+    }
+}
+
+fn remove_entry(entry: &mut Option<PlacedSpace>, name: &Name)
+    ensures { entry.new ≡ entry_beside name.now entry.old }
+{
+    if is_placed(entry, name) {
+        *entry = None;
+    }
 }
 
 /// The pages that are asked for, and those of them that are not for messages.

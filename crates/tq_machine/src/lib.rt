@@ -5,6 +5,7 @@
 
 mod device;
 mod entries;
+mod joining;
 mod machine;
 mod placed;
 mod queue_list;

@@ -1,12 +1,12 @@
 //! The site, and its step for each request.
 
-ghost use Rattle.std.specs.Prelude.{◌≡◌, ◌<◌, ◌≤◌, nat_lt, None, Some, IsSome, IfOk, IfNone, OnOk, OnErr, MatchOption, length, map, option_copied, option_map, slice_index_or, slice_set};
+ghost use Rattle.std.specs.Prelude.{◌≡◌, ◌<◌, ◌≤◌, nat_lt, None, Some, IsSome, IfOk, IfNone, OnOk, OnErr, MatchOption, cond, length, map, option_copied, option_to_list, option_map, set, slice_index_or, slice_set};
 ghost use Rattle.std.specs.List.{find, flat_map};
-ghost use Rattle.tq_model.specs.Site.{blank_site, durable, durable_space, has_name, on_spaces, capacity_of, present, space_named, spaces_on, volume_of};
-ghost use Rattle.tq_model.specs.Step.{boot, call_step, create_device, create_queue, create_space, creation_refusal, dequeue, device_step, enqueue, field_refused, list_device, new_volume, next_arrival, on_space, on_volume_refusal, ready, site_number, space_made, space_refusal, space_step, step, with_new_device};
+ghost use Rattle.tq_model.specs.Site.{Site, blank_site, durable, durable_space, has_name, on_spaces, capacity_of, present, space_named, spaces_on, volume_of};
+ghost use Rattle.tq_model.specs.Step.{boot, call_step, create_device, create_queue, create_space, creation_refusal, dequeue, device_step, enqueue, erase_device, erasure_refusal, field_refused, list_device, new_volume, next_arrival, on_space, on_volume_refusal, others_created, ready, removal_refusal, remove_space, site_number, space_made, space_refusal, space_step, step, with_blank_device, with_new_device};
 ghost use Rattle.tq_machine.specs.SpaceCalls.{IsReply, after_call, logged_outcome, outcome_of, space_name};
 ghost use Rattle.tq_machine.specs.Fields.{HasFieldsWithin};
-ghost use Rattle.tq_machine.specs.Tables.{device_spaces, entry_changed, entry_of};
+ghost use Rattle.tq_machine.specs.Tables.{device_spaces, entry_changed, entry_of, without_named};
 
 use crate::device::CreatedDevice;
 use crate::space_call::{DequeueByWords, EnqueueByWords, Reply, SpaceCall};
@@ -16,7 +16,7 @@ use tq_model::{
     Answer, CallRequest, Capacity, Creation, DequeueWords, DeviceAnswer, DeviceRequest,
     EnqueueWords, Field, Identity, LEAST_CLUSTERS, LONGEST_BODY, Listing, MOST_CLUSTERS,
     MOST_MEMORY, MOST_MESSAGES, MOST_PAGES, MOST_QUEUES, MOST_TRANSACTIONS, QueueCreation,
-    Readiness, Request, SpaceAnswer, SpaceCreation, SpaceRequest,
+    Readiness, Request, SpaceAnswer, SpaceCreation, SpaceRemoval, SpaceRequest,
 };
 use tq_types::{Arrival, Name};
 
@@ -131,6 +131,7 @@ impl Machine {
     {
         match request {
             DeviceRequest::Create(creation) => self.create_device(creation),
+            DeviceRequest::Erase(dev) => Ok(self.erase_device(*dev)),
             DeviceRequest::List(dev) => Ok(Answer::Device(self.list_device(*dev)?)),
         }
     }
@@ -192,6 +193,60 @@ impl Machine {
         Ok(capacity)
     }
 
+    /// Makes a device blank, or says the first reason not to.
+    fn erase_device(&mut self, dev: u8) -> Answer
+        ensures answer { result ≡ (erase_device dev self.old).answer }
+        ensures site { self.new ≡ (erase_device dev self.old).site }
+    {
+        match self.erasure_refusal(dev) {
+            Some(refusal) => Answer::Device(refusal),
+            None => {
+                self.blank_device(dev);
+                Answer::Done
+            }
+        }
+    }
+
+    /// The first reason not to make a device blank.
+    fn erasure_refusal(&self, dev: u8) -> Option<DeviceAnswer>
+        ensures { result ≡ erasure_refusal dev self.now }
+    {
+        if !self.has_device(dev) {
+            return Some(DeviceAnswer::NoDevice);
+        }
+        let Some(device) = self.volume(dev) else {
+            return Some(DeviceAnswer::NotCreated);
+        };
+        let spaces = device.space_count() as u32;
+        if spaces > 0 {
+            return Some(DeviceAnswer::NotEmpty(spaces));
+        }
+        let others = self.others_created(dev);
+        if dev == 0 && others > 0 {
+            return Some(DeviceAnswer::SiteInUse(others));
+        }
+        None
+    }
+
+    /// How many devices beside that one are created.
+    fn others_created(&self, dev: u8) -> u32
+        ensures { result ≡ others_created dev self.now }
+    {
+        count_others(&self.devices, usize::from(dev))
+    }
+
+    /// Makes a device blank; with device 0 the site ends.
+    fn blank_device(&mut self, dev: u8)
+        requires { dev < length self.old.devices }
+        ensures { self.new ≡ with_blank_device dev self.old }
+    {
+        self.devices[usize::from(dev)] = None;
+        if dev == 0 {
+            self.identity = None;
+            self.next = 0;
+        }
+    }
+
     /// What a device answers when it is listed.
     fn list_device(&self, dev: u8) -> Result<DeviceAnswer, AllocError>
         ensures { IfOk result (λ a. a ≡ list_device dev self.now) }
@@ -234,6 +289,7 @@ impl Machine {
     {
         match request {
             SpaceRequest::Create(creation) => self.create_space(creation),
+            SpaceRequest::Remove(removal) => Ok(self.remove_space(removal)),
             SpaceRequest::CreateQueue(creation) => self.create_queue(creation),
         }
     }
@@ -296,6 +352,23 @@ impl Machine {
         match &mut self.devices[usize::from(creation.dev)] {
             Some(device) => device.make_space(self.alloc, creation, site),
             None => unreachable!(),
+        }
+    }
+
+    /// Takes out a space, or says the first reason not to.
+    fn remove_space(&mut self, removal: &SpaceRemoval) -> Answer
+        ensures answer { result ≡ (remove_space removal.now self.old).answer }
+        ensures site { self.new ≡ (remove_space removal.now self.old).site }
+    {
+        let Some(place) = self.place_of(&removal.space) else {
+            return Answer::NoEntry;
+        };
+        match removal_refusal_at(&self.devices, place, removal.force) {
+            Some(refusal) => refusal,
+            None => {
+                remove_all(&mut self.devices, &removal.space);
+                Answer::Done
+            }
         }
     }
 
@@ -440,6 +513,49 @@ fn crash_device(device: &mut Option<CreatedDevice>)
     }
 }
 
+/// Takes out each space of that name.
+fn remove_all(devices: &mut [Option<CreatedDevice>], name: &Name)
+    ensures { devices.new ≡ map (option_map (without_named name.now)) devices.old }
+{
+    for at in 0..devices.len() {
+        remove_in(&mut devices[at], name);
+    }
+}
+
+fn remove_in(device: &mut Option<CreatedDevice>, name: &Name)
+    ensures { device.new ≡ option_map (without_named name.now) device.old }
+{
+    if let Some(device) = device {
+        device.remove(name);
+    }
+}
+
+/// How many devices beside that one are created.
+fn count_others(devices: &[Option<CreatedDevice>], dev: usize) -> u32
+    requires { length devices.now ≤ 8 }
+    ensures { result ≡ length (present (set devices.now dev None)) }
+{
+    let mut count = 0;
+    for at in 0..devices.len() {
+        count += count_other(&devices[at], at == dev);
+    }
+    count
+}
+
+/// One for a device that is created, if it is not the one that does not count.
+fn count_other(device: &Option<CreatedDevice>, is_it: bool) -> u32
+    ensures count { result ≡ length (option_to_list (cond is_it None device.now)) }
+    ensures most { result ≤ 1 }
+{
+    if is_it {
+        return 0;
+    }
+    match device {
+        Some(_) => 1,
+        None => 0,
+    }
+}
+
 fn count_spaces(devices: &[Option<CreatedDevice>]) -> u32
     requires { length devices.now ≤ 8 }
     ensures { result ≡ length (flat_map spaces_on (present devices.now)) }
@@ -500,6 +616,21 @@ fn call_at(
 {
     match &mut devices[place.dev] {
         Some(device) => device.call(place.entry, call),
+        None => unreachable!(),
+    }
+}
+
+/// Why the space of a place may not be removed, if it may not.
+fn removal_refusal_at(
+    devices: &[Option<CreatedDevice>],
+    place: SpacePlace,
+    force: bool,
+) -> Option<Answer>
+    requires { IsSome (entry_of (slice_index_or devices.now place.dev None) place.entry) }
+    ensures { (s : Site) → MatchOption (entry_of (slice_index_or devices.now place.dev None) place.entry) ⊥ (λ p. result ≡ removal_refusal force s p) }
+{
+    match &devices[place.dev] {
+        Some(device) => device.removal_refusal(place.entry, force),
         None => unreachable!(),
     }
 }

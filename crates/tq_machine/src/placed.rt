@@ -1,11 +1,10 @@
 //! A space in its place on a device, with what is taken of its log.
 
 ghost use Rattle.std.specs.Prelude.{◌≡◌, ◌<◌, ◌+◌, ◌-◌, ◌^◌, None, IfOk, OnOk, OnErr};
-ghost use Rattle.std.specs.List.{sum_by};
-ghost use Rattle.tq_model.specs.Site.{last_space, has_name, clusters_for, durable_space};
+ghost use Rattle.std.specs.List.{list_any, sum_by};
+ghost use Rattle.tq_model.specs.Site.{Site, last_space, has_name, clusters_for, covers, durable_space};
 ghost use Rattle.tq_model.specs.SpaceForm.{log_bytes};
-ghost use Rattle.tq_model.specs.Parts.{first_extents};
-ghost use Rattle.tq_model.specs.Step.{shape_asked, number_of, placed_new, space_line, log_refusal};
+ghost use Rattle.tq_model.specs.Step.{shape_asked, number_of, placed_new, space_line, log_refusal, removal_refusal};
 ghost use Rattle.tq_machine.specs.SpaceCalls.{IsReply, after_call, logged_outcome};
 ghost use Rattle.tq_machine.specs.Fields.{HasFieldsWithin};
 
@@ -13,7 +12,7 @@ use crate::space_call::{Reply, SpaceCall};
 use crate::space_lists::SpaceLists;
 use std::alloc::{AllocError, Global};
 use std::marker::Model;
-use tq_model::{Answer, Extent, Extents, LogRoom, Shape, SpaceCreation, SpaceLine};
+use tq_model::{Answer, Extent, Extents, LogRoom, Shape, SpaceAnswer, SpaceCreation, SpaceLine};
 use tq_types::Name;
 
 pub(crate) const HEADER_CLUSTERS: u32 = 4;
@@ -37,36 +36,51 @@ impl Model for PlacedSpace {
 }
 
 impl PlacedSpace {
-    /// A new space in the first clusters of its device, by its ordinal there.
+    /// A new space in these clusters of its device, by its ordinal there.
     pub(crate) fn new(
         alloc: Global,
         creation: &SpaceCreation,
         site: u32,
         ordinal: u32,
-    ) -> Result<PlacedSpace, AllocError>
+        extents: Extents,
+    ) -> PlacedSpace
         requires fields { HasFieldsWithin creation.now }
         requires ordinal { ordinal < last_space }
-        ensures { IfOk result (λ p. p ≡ placed_new creation.now site ordinal (first_extents creation.now.pages)) }
+        ensures { result ≡ placed_new creation.now site ordinal extents }
     {
-        let mut extents = Extents::new(alloc);
-        extents.push(Extent {
-            first: HEADER_CLUSTERS,
-            count: clusters_for(creation.pages) as u32,
-        })?;
         let number = number_of(creation.dev, ordinal);
-        Ok(PlacedSpace {
+        PlacedSpace {
             name: creation.name,
             pages: creation.pages as u32,
             extents,
             logged: 0,
             space: SpaceLists::new(alloc, &shape_asked(creation), site, number),
-        })
+        }
     }
 
     pub(crate) fn is_named(&self, name: &Name) -> bool
         ensures { result ≡ has_name name.now self.now }
     {
         self.name == *name
+    }
+
+    /// Whether the space has that cluster.
+    pub(crate) fn has_cluster(&self, cluster: u32) -> bool
+        ensures { result ≡ list_any (covers cluster) self.now.extents }
+    {
+        any_covers(self.extents.as_slice(), cluster)
+    }
+
+    /// Why the space may not be removed, if it may not: for now no transaction counts in it.
+    pub(crate) fn removal_refusal(&self, force: bool) -> Option<Answer>
+        ensures { (s : Site) → result ≡ removal_refusal force s self.now }
+    {
+        let messages = self.space.messages_held();
+        if !force && messages > 0 {
+            Some(Answer::Space(SpaceAnswer::NotEmpty(messages)))
+        } else {
+            None
+        }
     }
 
     /// What is left of so many clusters without those of the space.
@@ -175,6 +189,20 @@ fn log_bytes(pages: u32) -> u64
     ensures { result ≡ log_bytes pages }
 {
     1024 * u64::from(pages.saturating_sub(2))
+}
+
+fn any_covers(extents: &[Extent], cluster: u32) -> bool
+    ensures { result ≡ list_any (covers cluster) extents.now }
+{
+    extents.iter().any(|extent| covers(extent, cluster))
+}
+
+/// Whether the cluster is one of the extent.
+fn covers(extent: &Extent, cluster: u32) -> bool
+    ensures { result ≡ covers cluster extent.now }
+{
+    extent.first <= cluster
+        && u64::from(cluster) < u64::from(extent.first) + u64::from(extent.count)
 }
 
 fn left_of(clusters: u32, extents: &[Extent]) -> u32

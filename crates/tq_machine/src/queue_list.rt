@@ -67,6 +67,13 @@ impl QueueList {
         any_has_id(&self.items, id)
     }
 
+    /// How many entries there are.
+    pub(crate) fn held(&self) -> usize
+        ensures { result ≡ length self.now.items }
+    {
+        self.items.len()
+    }
+
     /// How many entries are not expired.
     pub(crate) fn lasting(&self, clock: u64) -> usize
         ensures { result ≡ length (purged_queue clock self.now).items }

@@ -2,9 +2,9 @@
 
 ghost use Rattle.std.specs.Prelude.{◌≡◌, ◌<◌, ◌+◌, ◌^◌, ℕ, List, false, if◌then◌else◌, [], ◌∷◌, length, map, Some, None, option_copied, IsSome, IfOk, OnOk, OnErr};
 ghost use Rattle.std.specs.List.{list_any, position, position_or_len, sum_by};
-ghost use Rattle.tq_model.specs.Space.{Free, is_named, comes_after, holds_id, is_expired, purged, purged_queue, crashed, crashed_queue, new_space, queue_named, without, with_entry_in};
+ghost use Rattle.tq_model.specs.Space.{Free, Queue, is_named, comes_after, holds_id, is_expired, purged, purged_queue, crashed, crashed_queue, new_space, queue_named, without, with_entry_in};
 ghost use Rattle.tq_model.specs.Moves.{entry_view, session_owners};
-ghost use Rattle.tq_model.specs.Room.{queue_pages, first_lacking, message_rooms};
+ghost use Rattle.tq_model.specs.Room.{queue_pages, messages_held, first_lacking, message_rooms};
 ghost use Rattle.tq_model.specs.EnqueueStep.{next_id, plain_label, message_to_come, enqueue_step, enqueue_refusal};
 ghost use Rattle.tq_model.specs.DequeueStep.{delivered, dequeue_step, dequeue_refusal};
 ghost use Rattle.tq_model.specs.CallChecks.{enqueue_call, dequeue_call};
@@ -82,6 +82,15 @@ impl SpaceLists {
         ensures { result ≡ self.now.number }
     {
         self.number
+    }
+
+    /// How many entries there are.
+    pub(crate) fn messages_held(&self) -> u64
+        ensures { result ≡ messages_held self.now }
+    {
+        // The sum fits, as any limit does.
+        let _limit = self.limits.messages;
+        count_held(&self.queues)
     }
 
     /// Leaves what is there after a crash.
@@ -286,6 +295,13 @@ fn place_holding(queues: &[QueueList], id: &MsgId) -> Option<usize>
     ensures { result ≡ position (holds_id id.now) queues.now }
 {
     queues.iter().position(|queue| queue.holds_id(id))
+}
+
+fn count_held(queues: &[QueueList]) -> u64
+    requires { sum_by (λ (queue : Queue). length queue.items) queues.now < 2 ^ 64 }
+    ensures { result ≡ sum_by (λ (queue : Queue). length queue.items) queues.now }
+{
+    queues.iter().map(|queue| queue.held() as u64).sum()
 }
 
 /// How many entries are not expired.

@@ -1,5 +1,5 @@
 -- From the parts of an image to its reading, and to the site for which one device stands.
-use Rattle.std.proofs.Common.{◌≡◌, ◌<◌, ◌≤◌, ℕ, ◌+◌, ◌*◌, List, [], ◌∷◌, ◌++◌, refl, sym, ◌∙◌, ap, subst, arith, Option, Some, None, Bool, true, false, length, cond, map, not}
+use Rattle.std.proofs.Common.{◌≡◌, ◌<◌, ◌≤◌, ℕ, ◌+◌, ◌*◌, List, [], ◌∷◌, ◌++◌, refl, sym, ◌∙◌, ap, subst, arith, Option, Some, None, Bool, true, false, length, get_or, cond, map, not, zero, suc}
 use Rattle.std.specs.Prelude.{◌==◌, nat_lt, ◌&&◌, option_map, is_some, unwrap_or}
 use Rattle.std.specs.List.{All, list_all, flat_map, find}
 use Rattle.std.specs.Option.{option_and_then}
@@ -17,8 +17,8 @@ use Rattle.tq_model.specs.SpaceForm.{raw_space, shape_of, empty_space, replayed}
 use Rattle.tq_model.proofs.RecordMoves.{crashed_plain}
 use Rattle.tq_model.proofs.Replays.{AreUpto, replayed_plain, empty_plain, replayed_upto, empty_upto}
 use Rattle.tq_model.specs.Site.{Site, Volume, SpaceOnDevice, present, durable, durable_space, on_spaces}
-use Rattle.tq_model.specs.Parts.{IsPart, table_with}
-use Rattle.tq_model.specs.Reading.{Content, Reading, Blank, Holds, Damaged, reading, is_whole, content_of, content_with, site_read, site_in, site_found, combined, combined_by, is_damaged, goes_with, is_upto, journal_epoch, volume_read, below, DevicePart, NamedSpace, device_part, device_tests, space_tests, page_tests, hold_all, replayed_in, placed_as, placed_in, Replayed, space_in, payloads_in, epoch_bound}
+use Rattle.tq_model.specs.Parts.{IsPart}
+use Rattle.tq_model.specs.Reading.{Content, Reading, Blank, Holds, Damaged, reading, is_whole, content_of, content_with, site_read, site_in, site_found, combined, combined_by, is_damaged, goes_with, has_new_name, are_upto, is_upto, journal_epoch, volume_read, below, DevicePart, NamedSpace, device_part, device_tests, space_tests, page_tests, hold_all, replayed_in, placed_as, placed_in, Replayed, space_in, payloads_in, epoch_bound}
 
 all_append : (xs ys : List Bool) → hold_all (xs ++ ys) ≡ (hold_all xs && hold_all ys)
 all_append xs ys = list_all-append (λ test. test) xs ys
@@ -59,40 +59,51 @@ part_reading d image is spaces =
 pub damaged_parts : (image : List ℕ) → 131072 ≤ length image → hold_all (device_tests 0 image) ≡ false → reading 0 image ≡ Damaged
 damaged_parts image le tests = long_reading image false le (whole_is image (device_part 0 image) false (hold_all (spaces_tests (device_part 0 image) image)) tests refl refl)
 
-damaged_spaces : (d : DevicePart) (image : List ℕ) → IsPart d image → hold_all (spaces_tests d image) ≡ false → reading 0 image ≡ Damaged
+-- the parts stand, and a space is damaged
+pub damaged_spaces : (d : DevicePart) (image : List ℕ) → IsPart d image → hold_all (spaces_tests d image) ≡ false → reading 0 image ≡ Damaged
 damaged_spaces d image is spaces = long_reading image false is.size (whole_is image d true false is.tests is.part spaces)
 
--- ---- one space
+-- ---- the spaces of a device
 
 -- the tests of a space's own pages
 abbrev pub has_pages : DevicePart → NamedSpace → List ℕ → Bool
 has_pages d n image = hold_all (page_tests n.pages (raw_space (first_page (bytes_of n.extents image)))) && is_some (replayed_in 0 d n image)
 
-one_space : (d : DevicePart) (n : NamedSpace) (image : List ℕ) → hold_all (space_tests 0 d image n ++ []) ≡ has_pages d n image
+one_space : (d : DevicePart) (n : NamedSpace) (image : List ℕ) → hold_all (space_tests 0 d image n) ≡ has_pages d n image
 one_space d n image =
     let page = hold_all (page_tests n.pages (raw_space (first_page (bytes_of n.extents image)))) in
     let by_last : (b : Bool) → (page && (b && true)) ≡ (page && b) = λ b. elim b as (λ x. (page && (x && true)) ≡ (page && x)) [ true ↦ refl | false ↦ refl ] in
-    ap hold_all (append-nil (space_tests 0 d image n))
-    ∙ all_append (page_tests n.pages (raw_space (first_page (bytes_of n.extents image)))) (is_some (replayed_in 0 d n image) ∷ []) ∙ by_last (is_some (replayed_in 0 d n image))
+    all_append (page_tests n.pages (raw_space (first_page (bytes_of n.extents image)))) (is_some (replayed_in 0 d n image) ∷ []) ∙ by_last (is_some (replayed_in 0 d n image))
 
-tests_of_one : (d : DevicePart) (n : NamedSpace) (image : List ℕ) → d.entries ≡ table_with (Some n) → hold_all (spaces_tests d image) ≡ has_pages d n image
-tests_of_one d n image named = ap (λ (entries : List (Option NamedSpace)). hold_all (flat_map (space_tests 0 d image) (present entries))) named ∙ one_space d n image
+-- the tests of the spaces in these entries
+abbrev pub entries_hold : DevicePart → List ℕ → List (Option NamedSpace) → Bool
+entries_hold d image entries = hold_all (flat_map (space_tests 0 d image) (present entries))
 
--- a device without a space, and one with a space
-bare_reading : (d : DevicePart) (image : List ℕ) → IsPart d image → d.entries ≡ table_with None → reading 0 image ≡ Holds (content_with d (table_with None))
-bare_reading d image is none =
-    part_reading d image is (ap (λ (entries : List (Option NamedSpace)). hold_all (flat_map (space_tests 0 d image) (present entries))) none)
-    ∙ ap (λ (entries : List (Option NamedSpace)). Holds (content_with d (map (placed_in 0 d image) entries))) none
+entry_first : (d : DevicePart) (image : List ℕ) (n : NamedSpace) (entries : List (Option NamedSpace)) → entries_hold d image (Some n ∷ entries) ≡ (has_pages d n image && entries_hold d image entries)
+entry_first d image n entries =
+    all_append (space_tests 0 d image n) (flat_map (space_tests 0 d image) (present entries)) ∙ ap (λ b. b && entries_hold d image entries) (one_space d n image)
 
-space_reading : (d : DevicePart) (n : NamedSpace) (r : Replayed) (image : List ℕ) → IsPart d image → d.entries ≡ table_with (Some n) → has_pages d n image ≡ true → replayed_in 0 d n image ≡ Some r
-    → reading 0 image ≡ Holds (content_with d (table_with (Some (placed_as n r))))
-space_reading d n r image is named pages reads =
-    part_reading d image is (tests_of_one d n image named ∙ pages)
-    ∙ ap (λ (entries : List (Option NamedSpace)). Holds (content_with d (map (placed_in 0 d image) entries))) named
-    ∙ ap (λ (o : Option Replayed). Holds (content_with d (table_with (option_map (placed_as n) o)))) reads
+-- each space passes its tests, or one does not
+pub each_space_holds : (d : DevicePart) (image : List ℕ) (entries : List (Option NamedSpace)) → ((i : ℕ) (n : NamedSpace) → get_or entries i None ≡ Some n → has_pages d n image ≡ true)
+    → entries_hold d image entries ≡ true
+each_space_holds d image [] each = refl
+each_space_holds d image (None ∷ entries) each = each_space_holds d image entries (λ i n is. each (suc i) n is)
+each_space_holds d image (Some n ∷ entries) each =
+    entry_first d image n entries ∙ and_from (has_pages d n image) (entries_hold d image entries) (each 0 n refl) (each_space_holds d image entries (λ i m is. each (suc i) m is))
 
-pub space_damage : (d : DevicePart) (n : NamedSpace) (image : List ℕ) → IsPart d image → d.entries ≡ table_with (Some n) → has_pages d n image ≡ false → reading 0 image ≡ Damaged
-space_damage d n image is named e = damaged_spaces d image is (tests_of_one d n image named ∙ e)
+pub space_fails : (d : DevicePart) (image : List ℕ) (entries : List (Option NamedSpace)) (i : ℕ) (n : NamedSpace) → get_or entries i None ≡ Some n → has_pages d n image ≡ false
+    → entries_hold d image entries ≡ false
+space_fails d image [] i n is fails = absurd (cc)
+space_fails d image (None ∷ entries) zero n is fails = absurd (cc)
+space_fails d image (None ∷ entries) (suc i) n is fails = space_fails d image entries i n is fails
+space_fails d image (Some m ∷ entries) zero n is fails =
+    entry_first d image m entries ∙ ap (λ b. b && entries_hold d image entries) (ap (λ (k : NamedSpace). has_pages d k image) (same_Some m n is) ∙ fails)
+space_fails d image (Some m ∷ entries) (suc i) n is fails =
+    entry_first d image m entries ∙ ap (λ b. has_pages d m image && b) (space_fails d image entries i n is fails) ∙ none (has_pages d m image)
+  where
+    none : (b : Bool) → (b && false) ≡ false
+    none true = refl
+    none false = refl
 
 -- ---- what one device stands for
 
@@ -108,9 +119,6 @@ found_holds images c goes is =
 
 same_site : (n : ℕ) → (n == n) ≡ true
 same_site n = eq-eqb n n refl
-
-pub found_bare : (d : DevicePart) (images : ℕ → List ℕ) → IsPart d (images 0) → d.entries ≡ table_with None → site_found 1 images ≡ Some (site_read (Holds (content_with d (table_with None)) ∷ []))
-found_bare d images is none = found_holds images (content_with d (table_with None)) (ap (λ b. b && true) (same_site d.site)) (bare_reading d (images 0) is none)
 
 -- ---- what a log makes
 
@@ -157,16 +165,33 @@ upto_tested epoch s all =
         (all_true (is_upto epoch) q.queue.items (All-head (λ (q : IndexedQueue). All (λ item. is_upto epoch item ≡ true) q.queue.items) q qs all))
         (weaker qs (All-tail (λ (q : IndexedQueue). All (λ item. is_upto epoch item ≡ true) q.queue.items) q qs all))
 
-pub found_space : (d : DevicePart) (n : NamedSpace) (j : Journal) (r : Replayed) (images : ℕ → List ℕ) → IsPart d (images 0) → d.entries ≡ table_with (Some n) → d.journal ≡ Some j
-    → hold_all (page_tests n.pages (raw_space (first_page (bytes_of n.extents (images 0))))) ≡ true → replayed_in 0 d n (images 0) ≡ Some r
-    → site_found 1 images ≡ Some (site_read (Holds (content_with d (table_with (Some (placed_as n r)))) ∷ []))
-found_space d n j r images is named journal page reads =
-    let c = content_with d (table_with (Some (placed_as n r))) in
-    let epoch = journal_epoch c in
-    let bound : epoch_bound d ≡ epoch = ap (λ (o : Option Journal). unwrap_or (option_map (λ (k : Journal). k.epoch) o) 4294967295) journal ∙ sym (ap (λ (o : Option Journal). unwrap_or (option_map (λ (k : Journal). k.epoch) o) 0) journal) in
-    let all = subst (λ e. AreUpto e r.space) bound (space_in_upto d.site (8 * n.ordinal + 0) (epoch_bound d) n.pages (bytes_of n.extents (images 0)) r reads) in
-    let goes : goes_with (Some c) [] c ≡ true = (λ i. same_site d.site i && (true && (upto_tested epoch r.space all i && true))) in
-    found_holds images c goes (space_reading d n r (images 0) is named (and_from (hold_all (page_tests n.pages (raw_space (first_page (bytes_of n.extents (images 0)))))) (is_some (replayed_in 0 d n (images 0))) page (ap is_some reads)) reads)
+-- each space that is read keeps to the epochs of its device
+entries_upto : (d : DevicePart) (image : List ℕ) (entries : List (Option NamedSpace)) → are_upto (epoch_bound d) (present (map (placed_in 0 d image) entries)) ≡ true
+entries_upto d image [] = refl
+entries_upto d image (None ∷ entries) = entries_upto d image entries
+entries_upto d image (Some n ∷ entries) = by_replay (replayed_in 0 d n image) refl (entries_upto d image entries)
+  where
+    by_replay : (o : Option Replayed) → replayed_in 0 d n image ≡ o → are_upto (epoch_bound d) (present (map (placed_in 0 d image) entries)) ≡ true
+        → are_upto (epoch_bound d) (present (option_map (placed_as n) o ∷ map (placed_in 0 d image) entries)) ≡ true
+    by_replay None is rest = rest
+    by_replay (Some r) is rest =
+        and_from (list_all (λ (q : Queue). list_all (is_upto (epoch_bound d)) q.items) (space_of r.space).queues) (are_upto (epoch_bound d) (present (map (placed_in 0 d image) entries)))
+        (upto_tested (epoch_bound d) r.space (space_in_upto d.site (8 * n.ordinal + 0) (epoch_bound d) n.pages (bytes_of n.extents image) r is)) rest
+
+all_new : (spaces : List SpaceOnDevice) → list_all (has_new_name []) spaces ≡ true
+all_new [] = refl
+all_new (p ∷ spaces) = all_new spaces
+
+-- one device whose parts stand and whose spaces pass their tests
+pub found_spaces : (d : DevicePart) (j : Journal) (images : ℕ → List ℕ) → IsPart d (images 0) → d.journal ≡ Some j → entries_hold d (images 0) d.entries ≡ true
+    → site_found 1 images ≡ Some (site_read (Holds (content_with d (map (placed_in 0 d (images 0)) d.entries)) ∷ []))
+found_spaces d j images is journal spaces =
+    let entries = map (placed_in 0 d (images 0)) d.entries in
+    let c = content_with d entries in
+    let bound : epoch_bound d ≡ journal_epoch c = ap (λ (o : Option Journal). unwrap_or (option_map (λ (k : Journal). k.epoch) o) 4294967295) journal ∙ sym (ap (λ (o : Option Journal). unwrap_or (option_map (λ (k : Journal). k.epoch) o) 0) journal) in
+    let upto : are_upto (journal_epoch c) (present entries) ≡ true = subst (λ e. are_upto e (present entries) ≡ true) bound (entries_upto d (images 0) d.entries) in
+    let goes : goes_with (Some c) [] c ≡ true = (λ i. same_site d.site i && (all_new (present entries) i && upto i)) in
+    found_holds images c goes (part_reading d (images 0) is spaces)
 
 -- ---- what is found is durable
 

@@ -7,20 +7,21 @@ use Rattle.std.specs.Str.Parse.{digits_value}
 use Rattle.tq_model.specs.declared.calls.Flag.{Flag}
 use Rattle.tq_model.specs.declared.calls.Flag.TheVariants as flags
 use Rattle.tq_model.specs.declared.grammar.Verb.{Verb}
-use Rattle.tq_model.specs.declared.grammar.Verb.TheVariants.{Boot, CreateDevice, ListDevice, CreateSpace, CreateQueue, Enqueue, Dequeue}
+use Rattle.tq_model.specs.declared.grammar.Verb.TheVariants.{Boot, CreateDevice, EraseDevice, ListDevice, CreateSpace, RemoveSpace, CreateQueue, Enqueue, Dequeue}
 use Rattle.tq_model.specs.declared.grammar.Kind.{Kind}
 use Rattle.tq_model.specs.declared.grammar.Kind.TheVariants as kinds
 use Rattle.tq_model.specs.declared.grammar.Key.{Key}
 use Rattle.tq_model.specs.declared.grammar.Key.TheVariants as keys
 use Rattle.tq_model.specs.declared.grammar.Value.{Value}
-use Rattle.tq_model.specs.declared.grammar.Value.TheVariants.{Number, Name, ErrorName, Text, Flags}
+use Rattle.tq_model.specs.declared.grammar.Value.TheVariants.{Number, Name, ErrorName, Text, Flags, Yes}
 use Rattle.tq_model.specs.declared.request.Request.{Request}
 use Rattle.tq_model.specs.declared.request.Request.TheVariants.{Nothing, Boot as BootAsked, Bad, TooLong, Device, Space, Call}
-use Rattle.tq_model.specs.declared.request.DeviceRequest.TheVariants.{Create, List as ListOf}
+use Rattle.tq_model.specs.declared.request.DeviceRequest.TheVariants.{Create, Erase, List as ListOf}
 use Rattle.tq_model.specs.declared.request.SpaceRequest.TheVariants as space_requests
 use Rattle.tq_model.specs.declared.request.CallRequest.TheVariants as call_requests
 use Rattle.tq_model.specs.declared.request.Creation.{Creation}
 use Rattle.tq_model.specs.declared.request.SpaceCreation.{SpaceCreation}
+use Rattle.tq_model.specs.declared.request.SpaceRemoval.{SpaceRemoval}
 use Rattle.tq_model.specs.declared.calls.EnqueueWords.{EnqueueWords}
 use Rattle.tq_model.specs.declared.calls.DequeueWords.{DequeueWords}
 use Rattle.tq_model.specs.Names.{is_name}
@@ -155,6 +156,9 @@ abbrev pub flags_from : List (List ℕ) → Option (List Flag)
 flags_from [] = Some []
 flags_from (word ∷ words) = if list_any (bytes_eq word) words then None else with_flag (flag_among known_flags word) (flags_from words)
 
+abbrev pub yes_value : List ℕ → Option Value
+yes_value word = if bytes_eq word (codes "yes") then Some Yes else None
+
 -- what a word of a kind spells, and None where it is not of that kind
 abbrev pub value_of : Kind → List ℕ → Option Value
 value_of kinds.Device word = number_between 0 7 word
@@ -164,14 +168,17 @@ value_of kinds.Name word = name_value word
 value_of kinds.ErrorName word = error_value word
 value_of kinds.Text word = option_map Text (text_of word)
 value_of kinds.Flags word = option_map Flags (flags_from (pieces word))
+value_of kinds.Yes word = yes_value word
 
 -- The table
 
 abbrev pub verb_word : Verb → List ℕ
 verb_word Boot = codes "boot"
 verb_word CreateDevice = codes "crdl"
+verb_word EraseDevice = codes "dsdl"
 verb_word ListDevice = codes "lidl"
 verb_word CreateSpace = codes "qspacecreate"
+verb_word RemoveSpace = codes "qspacedestroy"
 verb_word CreateQueue = codes "qcreate"
 verb_word Enqueue = codes "tpenqueue"
 verb_word Dequeue = codes "tpdequeue"
@@ -187,6 +194,7 @@ key_word keys.Error = codes "error"
 key_word keys.Memory = codes "memory"
 key_word keys.Flags = codes "flags"
 key_word keys.Data = codes "data"
+key_word keys.Force = codes "force"
 
 -- a key of a verb
 pub record KeyRow : Type 0 where
@@ -213,14 +221,16 @@ space_keys =
 abbrev pub row_of : Verb → Row
 row_of Boot = record { positional = []; keyed = [] }
 row_of CreateDevice = record { positional = kinds.Device ∷ kinds.Number ∷ []; keyed = optional keys.Site kinds.Number ∷ [] }
+row_of EraseDevice = record { positional = kinds.Device ∷ []; keyed = [] }
 row_of ListDevice = record { positional = kinds.Device ∷ []; keyed = [] }
 row_of CreateSpace = record { positional = kinds.Name ∷ []; keyed = space_keys }
+row_of RemoveSpace = record { positional = kinds.Name ∷ []; keyed = optional keys.Force kinds.Yes ∷ [] }
 row_of CreateQueue = record { positional = kinds.Name ∷ kinds.Name ∷ []; keyed = [] }
 row_of Enqueue = record { positional = kinds.Session ∷ kinds.Name ∷ kinds.Name ∷ []; keyed = optional keys.Flags kinds.Flags ∷ needed keys.Data kinds.Text ∷ [] }
 row_of Dequeue = record { positional = kinds.Session ∷ kinds.Name ∷ kinds.Name ∷ []; keyed = optional keys.Flags kinds.Flags ∷ [] }
 
 abbrev pub verbs : List Verb
-verbs = Boot ∷ CreateDevice ∷ ListDevice ∷ CreateSpace ∷ CreateQueue ∷ Enqueue ∷ Dequeue ∷ []
+verbs = Boot ∷ CreateDevice ∷ EraseDevice ∷ ListDevice ∷ CreateSpace ∷ RemoveSpace ∷ CreateQueue ∷ Enqueue ∷ Dequeue ∷ []
 
 abbrev pub verb_among : List Verb → List ℕ → Option Verb
 verb_among [] word = None
@@ -322,6 +332,12 @@ flags_in None = Some []
 flags_in (Some (Flags flags)) = Some flags
 flags_in _ = None
 
+-- whether a key is given that takes no other value
+abbrev pub yes_in : Option Value → Option Bool
+yes_in None = Some false
+yes_in (Some Yes) = Some true
+yes_in _ = None
+
 -- what is made of a value that may be missing
 abbrev pub and_then : {X Y : Type 0} → Option X → (X → Option Y) → Option Y
 and_then None rest = None
@@ -350,6 +366,9 @@ space_creation name given =
       memory = memory;
     }))))))))
 
+abbrev pub space_removal : List ℕ → List Given → Option SpaceRemoval
+space_removal space given = option_map (λ force. record { space = space; force = force }) (yes_in (value_given keys.Force given))
+
 abbrev pub enqueue_words : List ℕ → List ℕ → List Given → Option EnqueueWords
 enqueue_words space queue given =
     and_then (flags_in (value_given keys.Flags given)) (λ flags.
@@ -368,8 +387,10 @@ device_creation dev clusters given =
 abbrev pub request_of : Verb → List Value → List Given → Option Request
 request_of Boot [] given = Some BootAsked
 request_of CreateDevice (Number dev ∷ Number clusters ∷ []) given = option_map (λ creation. Device (Create creation)) (device_creation dev clusters given)
+request_of EraseDevice (Number dev ∷ []) given = Some (Device (Erase dev))
 request_of ListDevice (Number dev ∷ []) given = Some (Device (ListOf dev))
 request_of CreateSpace (Name name ∷ []) given = option_map (λ creation. Space (space_requests.Create creation)) (space_creation name given)
+request_of RemoveSpace (Name space ∷ []) given = option_map (λ removal. Space (space_requests.Remove removal)) (space_removal space given)
 request_of CreateQueue (Name space ∷ Name queue ∷ []) given = Some (Space (space_requests.CreateQueue (record { space = space; queue = queue })))
 request_of Enqueue (Number session ∷ Name space ∷ Name queue ∷ []) given = option_map (λ words. Call (call_requests.Enqueue session words)) (enqueue_words space queue given)
 request_of Dequeue (Number session ∷ Name space ∷ Name queue ∷ []) given = option_map (λ words. Call (call_requests.Dequeue session words)) (dequeue_words space queue given)

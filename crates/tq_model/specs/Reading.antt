@@ -90,23 +90,11 @@ journal_tests j =
     ∷ unwrap_or (option_map has_epochs (journal_read j)) false
     ∷ []
 
--- What the format has and no line makes yet gives no reading either. Each of these tests goes when it is built.
-
--- for now a device has one space, in the first entry of its table
-abbrev pub is_single : RawTable → Bool
-is_single t = list_all (λ (e : RawEntry). e.used == 0) (drop 1 t.entries)
-
--- for now a space has one extent, of the first clusters
-abbrev pub lies_first : RawEntry → Bool
-lies_first e = length e.extents == 1 && list_all (λ (x : Extent). x.first == header_clusters) e.extents
+-- What the format has and no line makes yet gives no reading either. This test goes when it is built.
 
 -- for now no commit is over several spaces
 abbrev pub has_no_decision : RawJournal → Bool
 has_no_decision j = unwrap_or (option_map (λ (k : Journal). not (is_some k.decision)) (journal_read j)) false
-
--- for now an epoch is raised by a new base alone
-abbrev pub has_empty_log : RawJournal → Bool
-has_empty_log j = not (get_or j.log 0 0 == open_gate)
 
 -- all tests of the device with this number but those of its spaces' own pages
 abbrev pub device_tests : ℕ → List ℕ → List Bool
@@ -115,8 +103,7 @@ device_tests place image =
     let t = raw_table h.table image in
     let j = raw_journal h.journal image in
     header_tests place h ++ table_tests t ++ entries_tests t.next h.clusters (length image) (used_entries t)
-    ++ (is_single t ∷ list_all lies_first (used_entries t) ∷ [])
-    ++ (if place == 0 then journal_tests j ++ (has_no_decision j ∷ has_empty_log j ∷ []) else [])
+    ++ (if place == 0 then journal_tests j ++ has_no_decision j ∷ [] else [])
 
 -- What a device says outside its spaces' own pages
 

@@ -115,6 +115,14 @@ on_devices change s = record s { devices = map (option_map change) s.devices }
 abbrev pub with_space : List ℕ → (SpaceOnDevice → SpaceOnDevice) → Site → Site
 with_space name change s = on_devices (on_spaces (changed_if name change)) s
 
+-- the site without the space of that name
+abbrev pub entry_beside : List ℕ → Option SpaceOnDevice → Option SpaceOnDevice
+entry_beside name None = None
+entry_beside name (Some placed) = if has_name name placed then None else Some placed
+
+abbrev pub without_space : List ℕ → Site → Site
+without_space name s = on_devices (λ v. record v { entries = map (entry_beside name) v.entries }) s
+
 -- how many branches are in doubt; no line prepares one yet
 abbrev pub in_doubt_count : Site → ℕ
 in_doubt_count s = 0

@@ -26,21 +26,23 @@ use Rattle.tq_model.specs.declared.space.Shape.{Shape}
 use Rattle.tq_model.specs.declared.request.Request.{Request}
 use Rattle.tq_model.specs.declared.request.Request.TheVariants.{Nothing, Boot, Bad, TooLong, Device, Space as OfSpace, Call as OfCall}
 use Rattle.tq_model.specs.declared.request.DeviceRequest.{DeviceRequest}
-use Rattle.tq_model.specs.declared.request.DeviceRequest.TheVariants.{Create, List as ListDevice}
+use Rattle.tq_model.specs.declared.request.DeviceRequest.TheVariants.{Create, Erase, List as ListDevice}
 use Rattle.tq_model.specs.declared.request.Creation.{Creation}
 use Rattle.tq_model.specs.declared.request.SpaceRequest.{SpaceRequest}
 use Rattle.tq_model.specs.declared.request.SpaceRequest.TheVariants as space_requests
 use Rattle.tq_model.specs.declared.request.SpaceCreation.{SpaceCreation}
+use Rattle.tq_model.specs.declared.request.SpaceRemoval.{SpaceRemoval}
 use Rattle.tq_model.specs.declared.request.QueueCreation.{QueueCreation}
 use Rattle.tq_model.specs.declared.request.CallRequest.{CallRequest}
 use Rattle.tq_model.specs.declared.request.CallRequest.TheVariants as call_requests
 use Rattle.tq_model.specs.CallChecks.{enqueue_checked, dequeue_checked}
 use Rattle.tq_model.specs.Space.{Space, is_named, overhead_pages, new_space, queues_with}
+use Rattle.tq_model.specs.Room.{messages_held}
 use Rattle.tq_model.specs.SpaceForm.{log_bytes, added_length, gone_length, made_length, default_queue}
 use Rattle.tq_model.specs.Moves.{queue_of}
 use Rattle.tq_model.specs.EnqueueStep.{enqueue_step, enqueue_refusal}
 use Rattle.tq_model.specs.DequeueStep.{dequeue_step, dequeue_refusal}
-use Rattle.tq_model.specs.Site.{Site, Volume, SpaceOnDevice, last_epoch, last_space, least_clusters, most_clusters, most_pages, most_queues, most_transactions, most_messages, most_memory, volume_of, is_created, capacity_of, durable, space_count, space_named, with_space, spaces_on, in_doubt_count, table_entries, no_entries, clusters_for, free_clusters, lowest_free, as_extents, entries_with}
+use Rattle.tq_model.specs.Site.{Site, Volume, SpaceOnDevice, last_epoch, last_space, least_clusters, most_clusters, most_pages, most_queues, most_transactions, most_messages, most_memory, volume_of, is_created, present, capacity_of, durable, space_count, space_named, with_space, without_space, spaces_on, in_doubt_count, table_entries, no_entries, clusters_for, free_clusters, lowest_free, as_extents, entries_with}
 
 pub record Outcome : Type 0 where
   pub site : Site
@@ -105,6 +107,29 @@ create_device c s = unless (option_map answers.Device (creation_refusal c s)) s 
   answer = answers.Device (device_answers.Created (capacity_of (new_volume c.clusters)));
 })
 
+-- how many devices beside that one are created
+abbrev pub others_created : ℕ → Site → ℕ
+others_created dev s = length (present (set s.devices dev None))
+
+abbrev pub erasure_refusal_of : ℕ → Site → Option Volume → Option DeviceAnswer
+erasure_refusal_of dev s None = Some device_answers.NotCreated
+erasure_refusal_of dev s (Some v) =
+    if nat_lt 0 (length (spaces_on v)) then Some (device_answers.NotEmpty (length (spaces_on v)))
+    else (if dev == 0 && nat_lt 0 (others_created dev s) then Some (device_answers.SiteInUse (others_created dev s)) else None)
+
+-- the first reason not to make a device blank
+abbrev pub erasure_refusal : ℕ → Site → Option DeviceAnswer
+erasure_refusal dev s = if nat_lt dev (length s.devices) then erasure_refusal_of dev s (volume_of s dev) else Some device_answers.NoDevice
+
+-- the site with that device made blank; with device 0 it ends
+abbrev pub with_blank_device : ℕ → Site → Site
+with_blank_device dev s =
+    let erased = record s { devices = set s.devices dev None } in
+    if dev == 0 then record erased { identity = None; next = 0 } else erased
+
+abbrev pub erase_device : ℕ → Site → Outcome
+erase_device dev s = unless (option_map answers.Device (erasure_refusal dev s)) s (record { site = with_blank_device dev s; answer = answers.Done })
+
 -- what is said of a space in its device's listing
 abbrev pub space_line : SpaceOnDevice → SpaceLine
 space_line p = record { name = p.name; number = p.space.number; pages = p.pages; extents = p.extents }
@@ -118,6 +143,7 @@ list_device dev s = if nat_lt dev (length s.devices) then listing_of (volume_of 
 
 abbrev pub device_step : Site → DeviceRequest → Outcome
 device_step s (Create c) = create_device c s
+device_step s (Erase dev) = erase_device dev s
 device_step s (ListDevice dev) = record { site = s; answer = answers.Device (list_device dev s) }
 
 -- Spaces
@@ -141,13 +167,9 @@ field_refused c =
 abbrev pub pages_asked : SpaceCreation → SpacePages
 pages_asked c = record { overhead = overhead_pages (shape_asked c); pages = c.pages }
 
--- for now a device has one space at most
-abbrev pub has_its_space : Volume → Bool
-has_its_space v = nat_lt 0 (length (spaces_on v))
-
 -- A device has no entry for a further space, or no ordinal.
 abbrev pub is_table_full : Volume → Bool
-is_table_full v = if has_its_space v then true else (nat_le table_entries (length (spaces_on v)) || nat_le last_space v.next_space)
+is_table_full v = nat_le table_entries (length (spaces_on v)) || nat_le last_space v.next_space
 
 -- the first reason of its device not to make a space
 abbrev pub placing_refusal : SpaceCreation → Volume → Option Answer
@@ -203,6 +225,24 @@ space_made c s (Some v) = record { site = with_new_space c s v; answer = answers
 
 abbrev pub create_space : SpaceCreation → Site → Outcome
 create_space c s = unless (space_refusal c s) s (space_made c s (volume_of s c.dev))
+
+-- how many transactions count in a space; no line begins one yet
+abbrev pub transaction_count : SpaceOnDevice → Site → ℕ
+transaction_count p s = 0
+
+-- the first reason not to remove a space
+abbrev pub removal_refusal : Bool → Site → SpaceOnDevice → Option Answer
+removal_refusal force s p =
+    if nat_lt 0 (transaction_count p s) then Some (answers.Space (space_answers.Busy (transaction_count p s)))
+    else (if not force && nat_lt 0 (messages_held p.space) then Some (answers.Space (space_answers.NotEmpty (messages_held p.space)))
+    else None)
+
+abbrev pub remove_found : SpaceRemoval → Site → Option SpaceOnDevice → Outcome
+remove_found r s None = refused s answers.NoEntry
+remove_found r s (Some p) = unless (removal_refusal r.force s p) s (record { site = without_space r.space s; answer = answers.Done })
+
+abbrev pub remove_space : SpaceRemoval → Site → Outcome
+remove_space r s = remove_found r s (space_named r.space s)
 
 -- The log
 
@@ -299,6 +339,7 @@ create_queue c s = on_space c.space (queue_outcome c.queue) s
 
 abbrev pub space_step : Site → SpaceRequest → Outcome
 space_step s (space_requests.Create c) = create_space c s
+space_step s (space_requests.Remove r) = remove_space r s
 space_step s (space_requests.CreateQueue c) = create_queue c s
 
 -- Calls

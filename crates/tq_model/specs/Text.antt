@@ -16,7 +16,7 @@ use Rattle.tq_model.specs.declared.answer.SpacePages.{SpacePages}
 use Rattle.tq_model.specs.declared.answer.Answer.{Answer}
 use Rattle.tq_model.specs.declared.answer.Answer.TheVariants.{Done, Syntax, TooLong, SystemError, Ready, Damaged, Invalid, NoEntry, LogFull, Device, Space, Call}
 use Rattle.tq_model.specs.declared.answer.DeviceAnswer.{DeviceAnswer}
-use Rattle.tq_model.specs.declared.answer.DeviceAnswer.TheVariants.{Created, Listed, NoDevice, NotCreated, Exists, NoSite, Range}
+use Rattle.tq_model.specs.declared.answer.DeviceAnswer.TheVariants.{Created, Listed, NoDevice, NotCreated, Exists, NoSite, NotEmpty, SiteInUse, Range}
 use Rattle.tq_model.specs.declared.answer.SpaceAnswer.{SpaceAnswer}
 use Rattle.tq_model.specs.declared.answer.SpaceAnswer.TheVariants as spaces
 use Rattle.tq_model.specs.declared.answer.Field.{Field}
@@ -68,6 +68,8 @@ device_text NoDevice = codes "NODEVICE"
 device_text NotCreated = codes "NOTCREATED"
 device_text Exists = codes "EXISTS"
 device_text NoSite = codes "NOSITE"
+device_text (NotEmpty spaces) = named (codes "NOTEMPTY spaces=") spaces
+device_text (SiteInUse devices) = named (codes "SITEINUSE devices=") devices
 device_text (Range field) = codes "RANGE field=" ++ field_text field
 
 -- Spaces
@@ -82,6 +84,8 @@ space_text (spaces.Small pages) = codes "SMALL" ++ pages_text pages
 space_text spaces.TableFull = codes "TABLEFULL"
 space_text (spaces.Lack room) = named (codes "LACK need=") room.need ++ named (codes " free=") room.free
 space_text (spaces.QueueFull limit) = named (codes "QUEUEFULL limit=") limit
+space_text (spaces.Busy transactions) = named (codes "BUSY transactions=") transactions
+space_text (spaces.NotEmpty messages) = named (codes "NOTEMPTY messages=") messages
 
 -- Calls
 

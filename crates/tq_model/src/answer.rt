@@ -70,6 +70,10 @@ pub enum DeviceAnswer {
     Exists,
     /// `NOSITE`: device 0 is blank.
     NoSite,
+    /// `NOTEMPTY`, with how many spaces the device has
+    NotEmpty(u32),
+    /// `SITEINUSE`, with how many other devices are created
+    SiteInUse(u32),
     /// `RANGE`, with the first field that is out of its limit
     Range(Field),
 }
@@ -243,6 +247,10 @@ pub enum SpaceAnswer {
     Lack(ClusterRoom),
     /// `QUEUEFULL`: the space has as many queues as its creation allows.
     QueueFull(u16),
+    /// `BUSY`, with how many transactions count in the space
+    Busy(u32),
+    /// `NOTEMPTY`, with how many messages the space has
+    NotEmpty(u64),
 }
 
 /// A space that was created.

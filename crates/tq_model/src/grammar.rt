@@ -8,10 +8,14 @@ pub enum Verb {
     Boot,
     /// `crdl`
     CreateDevice,
+    /// `dsdl`
+    EraseDevice,
     /// `lidl`
     ListDevice,
     /// `qspacecreate`
     CreateSpace,
+    /// `qspacedestroy`
+    RemoveSpace,
     /// `qcreate`
     CreateQueue,
     /// `tpenqueue`
@@ -37,6 +41,8 @@ pub enum Kind {
     Text,
     /// Names of flags, with `|` between them.
     Flags,
+    /// `yes`
+    Yes,
 }
 
 /// The key of a keyed word.
@@ -62,6 +68,8 @@ pub enum Key {
     Flags,
     /// `data`
     Data,
+    /// `force`
+    Force,
 }
 
 /// What a word spells.
@@ -73,4 +81,6 @@ pub enum Value {
     ErrorName(Option<Name>),
     Text(Body),
     Flags(Flags),
+    /// `yes`
+    Yes,
 }

@@ -29,7 +29,8 @@ pub use limits::{
 pub use names::name_in;
 pub use record::SpaceRecord;
 pub use request::{
-    CallRequest, Creation, DeviceRequest, QueueCreation, Request, SpaceCreation, SpaceRequest,
+    CallRequest, Creation, DeviceRequest, QueueCreation, Request, SpaceCreation, SpaceRemoval,
+    SpaceRequest,
 };
 pub use room::{message_pages, overhead_pages, pages_for};
 pub use space::{Change, QueueDef, Shape, SpaceMove, default_queue};

@@ -22,6 +22,8 @@ pub enum Request {
 pub enum DeviceRequest {
     /// `crdl`
     Create(Creation),
+    /// `dsdl`, of the device with this number
+    Erase(u8),
     /// `lidl`, of the device with this number
     List(u8),
 }
@@ -40,6 +42,8 @@ pub struct Creation {
 pub enum SpaceRequest {
     /// `qspacecreate`
     Create(SpaceCreation),
+    /// `qspacedestroy`
+    Remove(SpaceRemoval),
     /// `qcreate`
     CreateQueue(QueueCreation),
 }
@@ -58,6 +62,14 @@ pub struct SpaceCreation {
     pub error: Option<Name>,
     /// The most bytes of the bodies of messages that are not persistent.
     pub memory: u64,
+}
+
+/// A space to be removed, as it is asked for.
+#[derive(Debug, PartialEq, Eq, Drop)]
+pub struct SpaceRemoval {
+    pub space: Name,
+    /// Whether its messages go with it.
+    pub force: bool,
 }
 
 /// A queue to be created, as it is asked for.

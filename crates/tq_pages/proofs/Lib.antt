@@ -5,3 +5,4 @@ pub mod ChainLemmas
 pub mod ContentLemmas
 pub mod AdoptLemmas
 pub mod KeptLemmas
+pub mod NumberLemmas

@@ -2,6 +2,7 @@
 
 ghost use Rattle.std.specs.Prelude.{◌≡◌, ◌<◌, ◌≤◌, ◌+◌, ◌++◌, ◌^◌, ℕ, true, false, List, length, take, get_or, replicate, IfOk, OnOk, OnErr};
 ghost use Rattle.tq_extent.specs.Pages.{page_count};
+ghost use Rattle.tq_pages.specs.Content.{HasChain};
 ghost use Rattle.tq_pages.specs.FreePages.{free_count};
 ghost use Rattle.tq_pages.specs.Store as stores;
 ghost use Rattle.tq_pages.specs.Store.{Store, is_free, free_pages, size_of, count_of, page_of, page_behind, new_store, extended, with_taken, with_free, with_size, AreLoose, HasTaken, HasAdded, IsStore};
@@ -130,7 +131,9 @@ impl PageStore {
     /// Makes the pages of a chain free, which begins at this page. Takes no memory.
     pub fn release(&mut self, first: u32)
         requires { 1 ≤ size_of self.old first }
-        ensures { HasAdded self.new first (size_of self.old first) self.old }
+        ensures released { HasAdded self.new first (size_of self.old first) self.old }
+        // Where the pages of a chain say its numbers, those of each that is left still do.
+        ensures left { (g : ℕ) (bytes : List ℕ) → HasChain self.old g bytes → HasChain self.new g bytes }
     {
         let count = chain_pages(self.sizes[first as usize]);
         self.set_size(first, 0);

@@ -7,7 +7,7 @@ ghost use Rattle.tq_host.specs.Within.{Within, KeepsRest};
 ghost use Rattle.tq_extent.specs.Bytes.{byte_count, owned_bytes, reaches, OnBytes, IsAny, AllReach};
 ghost use Rattle.tq_pages.specs.Store as stores;
 ghost use Rattle.tq_pages.specs.Store.{free_pages, size_of, page_behind, HasAdded};
-ghost use Rattle.tq_pages.specs.Content.{payload_bytes, page_form, run_number, chain_bytes, AreWritten, IsWritten, IsSameButPages, IsSameButFree, ArePages};
+ghost use Rattle.tq_pages.specs.Content.{payload_bytes, page_form, run_number, chain_bytes, AreWritten, HasChain, IsWritten, IsSameButPages, IsSameButFree, ArePages};
 
 use crate::PageStore;
 use crate::filling::{PAGE, PAYLOAD, fill_run};
@@ -38,6 +38,13 @@ impl PageStore {
         ensures others { OnOk result (H.tells.reads → (g : ℕ) → 1 ≤ size_of self.old g
             → chain_bytes self.new g (owned_bytes self.old.clusters ((H.view host.new).reads self.old.dev))
             ≡ chain_bytes self.old g (owned_bytes self.old.clusters ((H.view host.old).reads self.old.dev))) }
+
+        // So do their pages say the same numbers, and those of the new chain which page is behind each.
+        ensures held { IfOk result (λ first. H.tells.reads
+            → HasChain self.new first (owned_bytes self.old.clusters ((H.view host.new).reads self.old.dev))) }
+        ensures stay { OnOk result (H.tells.reads → (g : ℕ) → 1 ≤ size_of self.old g
+            → HasChain self.old g (owned_bytes self.old.clusters ((H.view host.old).reads self.old.dev))
+            → HasChain self.new g (owned_bytes self.old.clusters ((H.view host.new).reads self.old.dev))) }
 
         // In each picture what was not free is that of one image of the start.
         ensures stop { AllReach self.old.dev self.old.clusters (H.view host.old)

@@ -4,7 +4,7 @@ use std::alloc::{AllocError, Global};
 use std::test::Fail;
 use tq_model::{
     CallRequest, Creation, DequeueWords, DeviceRequest, EnqueueWords, Flag, Flags, QueueCreation,
-    Request, SpaceCreation, SpaceRequest, name_in,
+    Request, SpaceCreation, SpaceRemoval, SpaceRequest, name_in,
 };
 use tq_script::{first_line, parse};
 use tq_types::Body;
@@ -232,8 +232,22 @@ tpenqueue 1 SP Q data=\"a b\" \"c d\"
                             ^
 tpenqueue 1 SP Q data=\"a b\" data=\"\"
                             ^
+dsdl 8
+     ^
+dsdl 0 1
+       ^
+qspacedestroy -SP
+              ^
+qspacedestroy SP force=YES
+                 ^
+qspacedestroy SP force=yes force=yes
+                           ^
 lidl
     ^
+dsdl
+    ^
+qspacedestroy
+             ^
 crdl
     ^
 crdl 
@@ -376,6 +390,15 @@ fn listings(rt: HostRuntime) -> Result<(), Fail> {
 }
 
 #[test]
+fn erasures(rt: HostRuntime) -> Result<(), Fail> {
+    for (line, dev) in [("dsdl 1", 1), ("  dsdl   7  ", 7)] {
+        let request = Request::Device(DeviceRequest::Erase(dev));
+        assert_eq!(rt; parse(rt.alloc(), line.as_bytes())?, request, "at {line:?}");
+    }
+    Ok(())
+}
+
+#[test]
 fn spaces(rt: HostRuntime) -> Result<(), Fail> {
     let lines: [(&[u8], Option<&[u8]>); 4] = [
         (
@@ -412,6 +435,22 @@ fn spaces(rt: HostRuntime) -> Result<(), Fail> {
         };
         let request = Request::Space(SpaceRequest::Create(creation));
         assert_eq!(rt; parse(rt.alloc(), line)?, request, "at {line:?}");
+    }
+    Ok(())
+}
+
+#[test]
+fn removals(rt: HostRuntime) -> Result<(), Fail> {
+    for (line, space, force) in [
+        ("qspacedestroy SP", "SP", false),
+        ("  qspacedestroy  1  force=yes ", "1", true),
+    ] {
+        let removal = SpaceRemoval {
+            space: name_in(space.as_bytes()).ok_or("a name")?,
+            force,
+        };
+        let request = Request::Space(SpaceRequest::Remove(removal));
+        assert_eq!(rt; parse(rt.alloc(), line.as_bytes())?, request, "at {line:?}");
     }
     Ok(())
 }

@@ -1,11 +1,9 @@
-//! Tests of what no row of the top call reaches: values, hosts, logs, moves of a space, the grammar,
-//! texts and the slow machine, each by the public calls of its crate.
+//! Tests of what no row of the top call reaches: values, hosts, moves of a space, the
+//! grammar, texts and the slow machine, each by the public calls of its crate.
 #![tactic(auto)]
 
 #[cfg(test)]
 mod devices;
-#[cfg(test)]
-mod extents;
 #[cfg(test)]
 mod fields;
 #[cfg(test)]
@@ -15,13 +13,7 @@ mod grammar;
 #[cfg(test)]
 mod hosts;
 #[cfg(test)]
-mod journals;
-#[cfg(test)]
-mod logs;
-#[cfg(test)]
 mod machine;
-#[cfg(test)]
-mod records;
 #[cfg(test)]
 mod spaces;
 #[cfg(test)]

@@ -70,14 +70,23 @@ fn two_devices(rt: HostRuntime) -> Result<(), Fail> {
         ),
         (
             "qspacecreate T dev=0 pages=46 queues=4 trans=4 msgs=16 error=- memory=0",
-            "TABLEFULL",
+            "OK number=16 overhead=45 pages=46",
         ),
         ("lidl 1", "OK clusters=5 free=1 spaces=0"),
         (
             "lidl 0",
-            "OK clusters=8192 free=8186 spaces=1\n  S number=8 pages=46 extents=4+2",
+            "OK clusters=8192 free=8184 spaces=2\n  S number=8 pages=46 extents=4+2\n  T number=16 pages=46 extents=6+2",
         ),
-        ("boot", "READY site=4294967295 epoch=2 spaces=1 indoubt=0"),
+        ("boot", "READY site=4294967295 epoch=2 spaces=2 indoubt=0"),
+        ("dsdl 2", "NODEVICE"),
+        ("dsdl 0", "NOTEMPTY spaces=2"),
+        ("qspacedestroy T", "OK"),
+        ("qspacedestroy S", "OK"),
+        ("dsdl 0", "SITEINUSE devices=1"),
+        ("dsdl 1", "OK"),
+        ("dsdl 1", "NOTCREATED"),
+        ("dsdl 0", "OK"),
+        ("boot", "READY site=- epoch=- spaces=0 indoubt=0"),
     ];
     check(&rt, rt.alloc(), 2, &rows)?;
     Ok(())

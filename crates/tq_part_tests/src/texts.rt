@@ -3,8 +3,8 @@
 use std::alloc::{AllocError, Global};
 use std::test::Fail;
 use tq_model::{
-    Answer, CallAnswer, Capacity, Delivery, DeviceAnswer, Extent, Extents, Listing, SpaceLine,
-    SpaceLines,
+    Answer, CallAnswer, Capacity, Delivery, DeviceAnswer, Extent, Extents, Listing, SpaceAnswer,
+    SpaceLine, SpaceLines,
 };
 use tq_print::answer;
 use tq_types::{Body, Lack, MsgId, Name, Resource};
@@ -92,6 +92,16 @@ fn answers(rt: HostRuntime) -> Result<(), Fail> {
     let table = [
         (1, none, "1 NOSITE\n"),
         (9, Answer::Damaged(7), "9 DAMAGED 7\n"),
+        (
+            8,
+            Answer::Device(DeviceAnswer::SiteInUse(7)),
+            "8 SITEINUSE devices=7\n",
+        ),
+        (
+            6,
+            Answer::Space(SpaceAnswer::Busy(4294967295)),
+            "6 BUSY transactions=4294967295\n",
+        ),
         (
             u64::MAX,
             Answer::Syntax(u64::MAX),

@@ -51,6 +51,12 @@ pub fn push_device(text: &mut Vec<u8>, answer: &DeviceAnswer) -> Result<(), Allo
         DeviceAnswer::NotCreated => text.extend_from_slice(b"NOTCREATED")?,
         DeviceAnswer::Exists => text.extend_from_slice(b"EXISTS")?,
         DeviceAnswer::NoSite => text.extend_from_slice(b"NOSITE")?,
+        DeviceAnswer::NotEmpty(spaces) => {
+            push_named(text, b"NOTEMPTY spaces=", u64::from(*spaces))?;
+        }
+        DeviceAnswer::SiteInUse(devices) => {
+            push_named(text, b"SITEINUSE devices=", u64::from(*devices))?;
+        }
         DeviceAnswer::Range(field) => push_range(text, *field)?,
     }
     Ok(())

@@ -49,6 +49,22 @@ pub fn push_queue_full(text: &mut Vec<u8>, limit: u16) -> Result<(), AllocError>
     Ok(())
 }
 
+/// Appends how many transactions count in the space.
+pub fn push_busy(text: &mut Vec<u8>, transactions: u32) -> Result<(), AllocError>
+    ensures { OnOk result (text.new.items ≡ text.old.items ++ named (codes "BUSY transactions=") transactions) }
+{
+    push_named(text, b"BUSY transactions=", u64::from(transactions))?;
+    Ok(())
+}
+
+/// Appends how many messages the space has.
+pub fn push_not_empty(text: &mut Vec<u8>, messages: u64) -> Result<(), AllocError>
+    ensures { OnOk result (text.new.items ≡ text.old.items ++ named (codes "NOTEMPTY messages=") messages) }
+{
+    push_named(text, b"NOTEMPTY messages=", messages)?;
+    Ok(())
+}
+
 /// Appends what is answered of spaces and their queues.
 pub fn push_space(text: &mut Vec<u8>, answer: &SpaceAnswer) -> Result<(), AllocError>
     ensures { OnOk result (text.new.items ≡ text.old.items ++ space_text answer.now) }
@@ -60,6 +76,8 @@ pub fn push_space(text: &mut Vec<u8>, answer: &SpaceAnswer) -> Result<(), AllocE
         SpaceAnswer::TableFull => text.extend_from_slice(b"TABLEFULL")?,
         SpaceAnswer::Lack(room) => push_cluster_lack(text, *room)?,
         SpaceAnswer::QueueFull(limit) => push_queue_full(text, *limit)?,
+        SpaceAnswer::Busy(transactions) => push_busy(text, *transactions)?,
+        SpaceAnswer::NotEmpty(messages) => push_not_empty(text, *messages)?,
     }
     Ok(())
 }

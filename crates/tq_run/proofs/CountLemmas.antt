@@ -10,10 +10,12 @@ use Rattle.tq_run.specs.Ending.{status_for}
 use Rattle.tq_coord.specs.declared.failure.BootFailure.{BootFailure}
 use Rattle.tq_coord.specs.declared.failure.BootFailure.TheVariants as boots
 use Rattle.tq_run.specs.declared.status.StartEnd.TheVariants as starts
+use Rattle.tq_run.specs.declared.status.LineEnd.{LineEnd}
+use Rattle.tq_run.specs.declared.status.LineEnd.TheVariants as lines
 use Rattle.tq_run.specs.declared.status.ScriptEnd.{ScriptEnd}
 use Rattle.tq_run.specs.declared.status.ScriptEnd.TheVariants as scripts
 use Rattle.tq_coord.specs.Counts.{Rises}
-use Rattle.tq_run.specs.Counts.{IsQuiet, StopCounts, IsCalm, RunStopCounts, HasRunCounts, itself, run_end_of_script, start_end_of_boot}
+use Rattle.tq_run.specs.Counts.{IsQuiet, StopCounts, IsCalm, RunStopCounts, HasRunCounts, itself, run_end_of_script, start_end_of_boot, start_end_of_line}
 
 -- a fact of an Ok, where there is one
 pub on_ok : {T E : Type 0} (r : Result T E) (G : Type 0) → ((x : T) → r ≡ Ok x → G) → OnOk r G
@@ -92,6 +94,10 @@ err_is (Err e) x is = ap (λ (y : _). Err y) is
 
 pub same_Err : {T E : Type 0} (x y : E) → ◌≡◌ {A = Result T E} (Err x) (Err y) → x ≡ y
 same_Err x y is = cc
+
+pub line_not_damaged : (e : LineEnd) → start_end_of_line e ≡ starts.Damaged → ⊥
+line_not_damaged lines.Memory is = cc
+line_not_damaged lines.Output is = cc
 
 pub damaged_boot : (e : BootFailure) → start_end_of_boot e ≡ starts.Damaged → e ≡ boots.Damaged
 damaged_boot boots.Damaged is = refl

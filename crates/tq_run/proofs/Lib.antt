@@ -14,3 +14,4 @@ pub mod WholeLemmas
 pub mod LineByLineLemmas
 pub mod Line0Lemmas
 pub mod StatusLemmas
+pub mod CallWordLemmas

@@ -69,6 +69,7 @@ fn serve_space<H: Host>(
 {
     match request {
         SpaceRequest::Create(creation) => manager.create_space(alloc, host, creation),
+        SpaceRequest::Remove(removal) => manager.remove_space(host, removal),
         SpaceRequest::CreateQueue(creation) => {
             let call = SpaceCall::CreateQueue(QueueCreation {
                 space: creation.space,

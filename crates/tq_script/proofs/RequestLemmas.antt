@@ -5,10 +5,10 @@ use Rattle.tq_model.specs.declared.grammar.Key.{Key}
 use Rattle.tq_model.specs.declared.grammar.Key.TheVariants as keys
 use Rattle.tq_model.specs.declared.grammar.Kind.TheVariants as kinds
 use Rattle.tq_model.specs.declared.grammar.Value.{Value}
-use Rattle.tq_model.specs.declared.grammar.Value.TheVariants.{Number, Name, ErrorName, Text, Flags}
+use Rattle.tq_model.specs.declared.grammar.Value.TheVariants.{Number, Name, ErrorName, Text, Flags, Yes}
 use Rattle.tq_model.specs.declared.grammar.Verb.{Verb}
-use Rattle.tq_model.specs.declared.grammar.Verb.TheVariants.{Boot, CreateDevice, ListDevice, CreateSpace, CreateQueue, Enqueue, Dequeue}
-use Rattle.tq_model.specs.Grammar.{Given, and_then, error_in, flags_in, needed, number_in, optional, optional_number_in, request_of, row_of, space_creation, space_keys, text_in}
+use Rattle.tq_model.specs.declared.grammar.Verb.TheVariants.{Boot, CreateDevice, EraseDevice, ListDevice, CreateSpace, RemoveSpace, CreateQueue, Enqueue, Dequeue}
+use Rattle.tq_model.specs.Grammar.{Given, and_then, error_in, flags_in, needed, number_in, optional, optional_number_in, request_of, row_of, space_creation, space_keys, text_in, yes_in}
 use Rattle.tq_script.specs.Kinds.{AreOfKinds, IsOfRow, AreOfRows}
 
 -- where a value is there, so is what it is made into
@@ -47,6 +47,11 @@ flags_in-some key None is = refl
 flags_in-some key (Some (Flags flags)) is = refl
 flags_in-some key _ is = absurd (search rules)
 
+yes_in-some : (key : Key) (o : Option Value) → IsOfRow (Some (optional key kinds.Yes)) o → IsSome (yes_in o)
+yes_in-some key None is = refl
+yes_in-some key (Some Yes) is = refl
+yes_in-some key _ is = absurd (search rules)
+
 space_creation-some : (name : List ℕ) (given : List Given) → AreOfRows space_keys given → IsSome (space_creation name given)
 space_creation-some name given are =
     and_then-some _ _ (device_in-some keys.Dev _ (are keys.Dev)) (λ dev.
@@ -61,8 +66,10 @@ pub request_exists : (verb : Verb) (values : List Value) (given : List Given) �
 request_exists Boot [] given of_kinds of_rows = refl
 request_exists CreateDevice (Number dev ∷ Number clusters ∷ []) given of_kinds of_rows =
     mapped-some _ _ (mapped-some _ _ (optional_number_in-some keys.Site _ (of_rows keys.Site)))
+request_exists EraseDevice (Number dev ∷ []) given of_kinds of_rows = refl
 request_exists ListDevice (Number dev ∷ []) given of_kinds of_rows = refl
 request_exists CreateSpace (Name name ∷ []) given of_kinds of_rows = mapped-some _ _ (space_creation-some name given of_rows)
+request_exists RemoveSpace (Name space ∷ []) given of_kinds of_rows = mapped-some _ _ (mapped-some _ _ (yes_in-some keys.Force _ (of_rows keys.Force)))
 request_exists CreateQueue (Name space ∷ Name queue ∷ []) given of_kinds of_rows = refl
 request_exists Enqueue (Number session ∷ Name space ∷ Name queue ∷ []) given of_kinds of_rows =
     mapped-some _ _ (and_then-some _ _ (flags_in-some keys.Flags _ (of_rows keys.Flags)) (λ flags.

@@ -10,9 +10,9 @@ use Rattle.tq_model.specs.declared.grammar.Key.{Key}
 use Rattle.tq_model.specs.declared.grammar.Kind.{Kind}
 use Rattle.tq_model.specs.declared.grammar.Kind.TheVariants as kinds
 use Rattle.tq_model.specs.declared.grammar.Value.{Value}
-use Rattle.tq_model.specs.declared.grammar.Value.TheVariants.{Number, Name, ErrorName, Text, Flags}
+use Rattle.tq_model.specs.declared.grammar.Value.TheVariants.{Number, Name, ErrorName, Text, Flags, Yes}
 use Rattle.tq_model.specs.Names.{is_name}
-use Rattle.tq_model.specs.Grammar.{Word, KeyRow, Given, Scan, Misfit, Missing, Spelt, is_numeral, number_between, name_value, error_value, text_of, flags_from, pieces, value_of, with_value, with_given, after_key, after_value, keyed_value, rows_without, scan, scan_keyed}
+use Rattle.tq_model.specs.Grammar.{Word, KeyRow, Given, Scan, Misfit, Missing, Spelt, is_numeral, number_between, name_value, error_value, yes_value, text_of, flags_from, pieces, value_of, with_value, with_given, after_key, after_value, keyed_value, rows_without, scan, scan_keyed}
 use Rattle.tq_script.specs.Kinds.{IsOfKind, AreOfKinds}
 
 pub spelt-given : (g : Given) (s : Scan) (values : List Value) (given : List Given) → with_given g s ≡ Spelt values given → (rest : List Given) × (given ≡ g ∷ rest) × (s ≡ Spelt values rest)
@@ -68,6 +68,12 @@ error-value word v e = elim (cases_Bool (bytes_eq word (codes "-"))) [
   ]
 ]
 
+yes-value : (word : List ℕ) (v : Value) → yes_value word ≡ Some v → v ≡ Yes
+yes-value word v e = elim (cases_Bool (bytes_eq word (codes "yes"))) [
+  | inl h ↦ let is : Some Yes ≡ Some v = rw h at e in let same : v ≡ Yes = cc in same
+  | inr h ↦ let none : Option Value = None in let is : none ≡ Some v = rw h at e in absurd (cc)
+]
+
 pub IsOfKind-value : (kind : Kind) (word : List ℕ) (v : Value) → value_of kind word ≡ Some v → IsOfKind kind v
 IsOfKind-value kinds.Device word v e = let is = number-between 0 7 word v e in rw is.1 is.2.1
 IsOfKind-value kinds.Session word v e = let is = number-between 1 32 word v e in rw is.1 is.2
@@ -76,6 +82,7 @@ IsOfKind-value kinds.Name word v e = rw (name-value word v e) tt
 IsOfKind-value kinds.ErrorName word v e = rw (error-value word v e).1 tt
 IsOfKind-value kinds.Text word v e = rw (mapped Text (text_of word) v e).1 tt
 IsOfKind-value kinds.Flags word v e = rw (mapped Flags (flags_from (pieces word)) v e).1 tt
+IsOfKind-value kinds.Yes word v e = rw (yes-value word v e) tt
 
 -- so are all
 after-kinds : (o : Option Value) (column : ℕ) (rest : Scan) (kind : Kind) (kinds : List Kind) → ((v : Value) → o ≡ Some v → IsOfKind kind v) →

@@ -4,7 +4,7 @@ use Rattle.tq_model.specs.declared.grammar.Key.{Key}
 use Rattle.tq_model.specs.declared.grammar.Kind.{Kind}
 use Rattle.tq_model.specs.declared.grammar.Kind.TheVariants as kinds
 use Rattle.tq_model.specs.declared.grammar.Value.{Value}
-use Rattle.tq_model.specs.declared.grammar.Value.TheVariants.{Number, Name, ErrorName, Text, Flags}
+use Rattle.tq_model.specs.declared.grammar.Value.TheVariants.{Number, Name, ErrorName, Text, Flags, Yes}
 use Rattle.tq_model.specs.Grammar.{KeyRow, Given, key_among, key_word, value_given}
 
 abbrev pub IsOfKind : Kind → Value → Type 0
@@ -15,6 +15,7 @@ IsOfKind kinds.Name (Name name) = Unit {0}
 IsOfKind kinds.ErrorName (ErrorName name) = Unit {0}
 IsOfKind kinds.Text (Text bytes) = Unit {0}
 IsOfKind kinds.Flags (Flags flags) = Unit {0}
+IsOfKind kinds.Yes Yes = Unit {0}
 IsOfKind _ _ = ⊥
 
 -- one value for each kind

@@ -3,7 +3,7 @@
 ghost use Rattle.std.specs.Prelude.{◌≡◌, false, map};
 ghost use Rattle.std.specs.List.{position};
 ghost use Rattle.std.specs.Option.{option_copied};
-ghost use Rattle.tq_model.specs.Grammar.{error_in, flags_in, is_same_key, number_given, number_in, optional_number_in, text_in, value_given};
+ghost use Rattle.tq_model.specs.Grammar.{error_in, flags_in, is_same_key, number_given, number_in, optional_number_in, text_in, value_given, yes_in};
 ghost use Rattle.tq_model.specs.declared.grammar.Key as grammar_key;
 ghost use Rattle.tq_script.specs.Rows.{given_of};
 
@@ -78,6 +78,17 @@ pub fn error_given(key: Key, given: &[Given]) -> Option<Option<Name>>
     match value_given(key, given) {
         Some(Value::ErrorName(name)) => Some(*name),
         _ => None,
+    }
+}
+
+/// Whether the key was given, which takes `yes` alone.
+pub fn yes_given(key: Key, given: &[Given]) -> Option<bool>
+    ensures { result ≡ yes_in (value_given key (map given_of given.now)) }
+{
+    match value_given(key, given) {
+        None => Some(false),
+        Some(Value::Yes) => Some(true),
+        Some(_) => None,
     }
 }
 

@@ -8,6 +8,7 @@ ghost use Rattle.tq_script.specs.Rows.{given_of};
 use crate::cutting::{LONGEST_LINE, Words};
 use crate::given::{
     Given, error_given, flags_in, number_given, optional_number_given, take_given, text_in,
+    yes_given,
 };
 use crate::reading::read_words;
 use crate::table::verb_named;
@@ -15,7 +16,7 @@ use crate::unread::Unread;
 use std::alloc::{AllocError, Global};
 use tq_model::{
     CallRequest, Creation, DequeueWords, DeviceRequest, EnqueueWords, Key, QueueCreation, Request,
-    SpaceCreation, SpaceRequest, Value, Verb,
+    SpaceCreation, SpaceRemoval, SpaceRequest, Value, Verb,
 };
 use tq_types::Name;
 
@@ -68,8 +69,10 @@ fn request_of(alloc: Global, verb: Verb, values: &[Value], given: Vec<Given>) ->
     match verb {
         Verb::Boot => Some(Request::Boot),
         Verb::CreateDevice => create_device(values, &given),
+        Verb::EraseDevice => erase_device(values),
         Verb::ListDevice => list_device(values),
         Verb::CreateSpace => create_space(values, &given),
+        Verb::RemoveSpace => remove_space(values, &given),
         Verb::CreateQueue => create_queue(values),
         Verb::Enqueue => enqueue(alloc, values, given),
         Verb::Dequeue => dequeue(alloc, values, given),
@@ -88,6 +91,16 @@ fn create_device(values: &[Value], given: &[Given]) -> Option<Request>
         clusters: *clusters,
         site: optional_number_given(Key::Site, given)?,
     })))
+}
+
+fn erase_device(values: &[Value]) -> Option<Request>
+    requires { AreOfKinds (row_of Verb.EraseDevice).positional values.now }
+    ensures { (given : List grammar.Given) → result ≡ request_of Verb.EraseDevice values.now given }
+{
+    let [Value::Number(dev)] = values else {
+        return None;
+    };
+    Some(Request::Device(DeviceRequest::Erase(*dev as u8)))
 }
 
 fn list_device(values: &[Value]) -> Option<Request>
@@ -125,6 +138,18 @@ fn space_creation(name: Name, given: &[Given]) -> Option<SpaceCreation>
         error: error_given(Key::Error, given)?,
         memory: number_given(Key::Memory, given)?,
     })
+}
+
+fn remove_space(values: &[Value], given: &[Given]) -> Option<Request>
+    ensures { result ≡ request_of Verb.RemoveSpace values.now (map given_of given.now) }
+{
+    let [Value::Name(space)] = values else {
+        return None;
+    };
+    Some(Request::Space(SpaceRequest::Remove(SpaceRemoval {
+        space: *space,
+        force: yes_given(Key::Force, given)?,
+    })))
 }
 
 fn create_queue(values: &[Value]) -> Option<Request>

@@ -43,11 +43,13 @@ macro_rules! optional {
 }
 
 /// Every verb.
-const VERBS: [Verb; 7] = [
+const VERBS: [Verb; 9] = [
     Verb::Boot,
     Verb::CreateDevice,
+    Verb::EraseDevice,
     Verb::ListDevice,
     Verb::CreateSpace,
+    Verb::RemoveSpace,
     Verb::CreateQueue,
     Verb::Enqueue,
     Verb::Dequeue,
@@ -67,6 +69,10 @@ pub fn row_of(verb: Verb) -> Row
             positional: &[Kind::Device, Kind::Number],
             keyed: &[optional!(Site, Number)],
         },
+        Verb::EraseDevice => Row {
+            positional: &[Kind::Device],
+            keyed: &[],
+        },
         Verb::ListDevice => Row {
             positional: &[Kind::Device],
             keyed: &[],
@@ -82,6 +88,10 @@ pub fn row_of(verb: Verb) -> Row
                 needed!(Error, ErrorName),
                 needed!(Memory, Number),
             ],
+        },
+        Verb::RemoveSpace => Row {
+            positional: &[Kind::Name],
+            keyed: &[optional!(Force, Yes)],
         },
         Verb::CreateQueue => Row {
             positional: &[Kind::Name, Kind::Name],
@@ -104,8 +114,10 @@ fn verb_word(verb: Verb) -> &'static [u8]
     match verb {
         Verb::Boot => b"boot",
         Verb::CreateDevice => b"crdl",
+        Verb::EraseDevice => b"dsdl",
         Verb::ListDevice => b"lidl",
         Verb::CreateSpace => b"qspacecreate",
+        Verb::RemoveSpace => b"qspacedestroy",
         Verb::CreateQueue => b"qcreate",
         Verb::Enqueue => b"tpenqueue",
         Verb::Dequeue => b"tpdequeue",
@@ -126,6 +138,7 @@ pub fn key_word(key: Key) -> &'static [u8]
         Key::Memory => b"memory",
         Key::Flags => b"flags",
         Key::Data => b"data",
+        Key::Force => b"force",
     }
 }
 

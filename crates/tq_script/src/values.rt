@@ -1,7 +1,7 @@
 //! What a word of each kind spells.
 
 ghost use Rattle.std.specs.Prelude.{◌≡◌, IfOk};
-ghost use Rattle.tq_model.specs.Grammar.{error_value, name_value, value_of};
+ghost use Rattle.tq_model.specs.Grammar.{error_value, name_value, value_of, yes_value};
 
 use crate::flags::flags_of;
 use crate::numerals::number_between;
@@ -21,6 +21,7 @@ pub fn value_of(alloc: Global, kind: Kind, word: &[u8]) -> Result<Option<Value>,
         Kind::ErrorName => Ok(error_value(word)),
         Kind::Text => Ok(text_of(alloc, word)?.map(Value::Text)),
         Kind::Flags => Ok(flags_of(alloc, word)?.map(Value::Flags)),
+        Kind::Yes => Ok(yes_value(word)),
     }
 }
 
@@ -28,6 +29,15 @@ fn name_value(word: &[u8]) -> Option<Value>
     ensures { result ≡ name_value word.now }
 {
     name_in(word).map(Value::Name)
+}
+
+fn yes_value(word: &[u8]) -> Option<Value>
+    ensures { result ≡ yes_value word.now }
+{
+    if word == b"yes".as_slice() {
+        return Some(Value::Yes);
+    }
+    None
 }
 
 /// A name, or `-` for none.

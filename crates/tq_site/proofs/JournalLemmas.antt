@@ -15,7 +15,7 @@ use Rattle.tq_extent.specs.Bytes.{owned_bytes, byte_address, reaches, ShareNone,
 use Rattle.tq_extent.proofs.BytesLemmas.{header-owned, header_reached, length-owned, address_reached, others_kept}
 use Rattle.tq_model.specs.Site.{header_clusters, numbers_from}
 use Rattle.tq_model.specs.DeviceForm.{Journal, Decision, RawJournal, raw_header, raw_journal, journal_base, journal_after, journal_read, header_bytes, page_bytes, journal_log_bytes, chosen, journal_a, journal_b}
-use Rattle.tq_model.specs.Reading.{journal_tests, has_no_decision, has_empty_log, has_epochs, hold_all}
+use Rattle.tq_model.specs.Reading.{journal_tests, has_no_decision, has_epochs, hold_all}
 use Rattle.tq_gate.specs.declared.layout.Layout.{Layout}
 use Rattle.tq_gate.specs.declared.log.GateLog.{GateLog}
 use Rattle.tq_gate.specs.Layout.{bytes_in, clusters_of, first_area, layout_end}
@@ -25,7 +25,7 @@ use Rattle.tq_gate.proofs.Contents.{holds_of, content_in, fits_some}
 use Rattle.tq_gate.proofs.Readings.{log_reading_is, reading_shut}
 use Rattle.tq_gate.proofs.OutsideLemmas.{IsOf, content_beside, content_elsewhere}
 use Rattle.tq_site.specs.Base.{SaysEpoch, journal_of}
-use Rattle.tq_site.specs.Journal.{HasEpoch, journal_layout, journal_in}
+use Rattle.tq_site.specs.Journal.{HasEpoch, has_empty_log, journal_layout, journal_in}
 
 -- a run of a run
 run_at-run_at : (k m at n : ℕ) (bytes : List ℕ) → k + m ≤ n → run_at k m (run_at at n bytes) ≡ run_at (at + k) m bytes

@@ -1,12 +1,12 @@
 -- The journal of a site on device 0, in an image.
-use Rattle.std.specs.Prelude.{◌≡◌, ◌⊎◌, ℕ, ◌+◌, ◌≤◌, true, List, length, get_or, Some, None}
+use Rattle.std.specs.Prelude.{◌==◌, not, Bool, ◌≡◌, ◌⊎◌, ℕ, ◌+◌, ◌≤◌, true, List, length, get_or, Some, None}
 use Rattle.tq_extent.specs.Bytes.{OnBytes}
 use Rattle.tq_gate.specs.declared.layout.Layout.{Layout}
 use Rattle.tq_gate.specs.declared.layout.Areas.TheVariants.{Two}
 use Rattle.tq_gate.specs.Log.{IsSameBeside}
 use Rattle.tq_model.specs.Site.{header_clusters, numbers_from}
-use Rattle.tq_model.specs.DeviceForm.{RawJournal, raw_header, raw_journal, journal_read, header_bytes}
-use Rattle.tq_model.specs.Reading.{journal_tests, has_empty_log, hold_all}
+use Rattle.tq_model.specs.DeviceForm.{RawJournal, raw_header, raw_journal, journal_read, header_bytes, open_gate}
+use Rattle.tq_model.specs.Reading.{journal_tests, hold_all}
 
 -- the two areas of the journal on the pages of the header, chosen by one of its bytes
 abbrev pub journal_layout : ℕ → Layout
@@ -21,6 +21,10 @@ pub record HasEpoch (epoch : ℕ) (image : List ℕ) : Type 0 where
   pub size : header_bytes ≤ length image
   pub tests : hold_all (journal_tests (journal_in image)) ≡ true
   pub says : journal_read (journal_in image) ≡ Some (record { epoch = epoch; decision = None })
+
+-- its log has no payload
+abbrev pub has_empty_log : RawJournal → Bool
+has_empty_log j = not (get_or j.log 0 0 == open_gate)
 
 -- an image has the journal of a site that was just made: of epoch 1, in area A, with an empty log
 pub record HasFirstJournal (image : List ℕ) : Type 0 where

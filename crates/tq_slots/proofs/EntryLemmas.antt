@@ -1,20 +1,19 @@
 -- An entry's slot and header make that entry again, and what makes an entry is that entry's slot and header.
-use Rattle.std.proofs.Common.{◌≡◌, ℕ, zero, suc, ◌+◌, ◌/◌, ◌%◌, ◌≤◌, ◌&&◌, ◌||◌, Bool, true, false, cond, not, List, [], ◌∷◌, length, Option, Some, None, refl, sym, ap, subst, ◌∙◌, arith}
+use Rattle.std.proofs.Common.{◌≡◌, ℕ, zero, suc, ◌+◌, ◌≤◌, ◌&&◌, ◌||◌, Bool, true, false, cond, not, List, [], ◌∷◌, length, Option, Some, None, refl, sym, ap, ◌∙◌, arith}
 use Rattle.std.specs.Prelude.{◌==◌, nat_le, if◌then◌else◌}
 use Rattle.std.proofs.lemmas.Bool.{and_parts, and_from, eq-eqb, eqb-true, leb-true}
 use Rattle.tq_types.specs.declared.identifiers.Arrival.{Arrival}
 use Rattle.tq_types.specs.declared.labels.Label.{Label}
-use Rattle.tq_types.specs.declared.labels.Root.{Root}
 use Rattle.tq_types.specs.Placed.{own_arrival}
 use Rattle.tq_types.specs.Path.{arrival_eq}
-use Rattle.tq_model.specs.Space.{Entry, Message, Free, Stored, body_length}
+use Rattle.tq_model.specs.Space.{Entry}
 use Rattle.tq_slots.specs.declared.record.MessageSlot.{MessageSlot}
 use Rattle.tq_slots.specs.declared.message.Header.{Header}
-use Rattle.tq_slots.specs.MessageForm.{bit_of, top_bit, has_bit, moment_or_zero, moment_where, header_of_entry, slot_of_entry, slot_arrival, label_of, entry_with, last_moment, is_priority, is_free_slot, go_together, entry_of_slot, read_slot, read_header, is_moment_or_none, HasSlot}
+use Rattle.tq_slots.specs.MessageForm.{bit_of, top_bit, has_bit, moment_or_zero, moment_where, header_of_entry, slot_of_entry, slot_arrival, label_of, entry_with, last_moment, is_priority, has_moments, is_free_slot, go_together, entry_of_slot, read_slot, read_header, is_moment_or_none, HasSlot}
 
 -- ---- the bits of a slot
 
-abbrev bits : Bool → Option ℕ → Option ℕ → ℕ
+abbrev pub bits : Bool → Option ℕ → Option ℕ → ℕ
 bits top own root = top_bit top + bit_of 2 own + bit_of 4 root
 
 bits-most : (top : Bool) (own root : Option ℕ) → nat_le (bits top own root) 7 ≡ true
@@ -27,7 +26,7 @@ bits-most false None (Some r) = refl
 bits-most false (Some o) None = refl
 bits-most false (Some o) (Some r) = refl
 
-top-again : (top : Bool) (own root : Option ℕ) → has_bit 1 (bits top own root) ≡ top
+pub top-again : (top : Bool) (own root : Option ℕ) → has_bit 1 (bits top own root) ≡ top
 top-again true None None = refl
 top-again true None (Some r) = refl
 top-again true (Some o) None = refl
@@ -37,7 +36,7 @@ top-again false None (Some r) = refl
 top-again false (Some o) None = refl
 top-again false (Some o) (Some r) = refl
 
-own-again : (top : Bool) (own root : Option ℕ) → moment_where (has_bit 2 (bits top own root)) (moment_or_zero own) ≡ own
+pub own-again : (top : Bool) (own root : Option ℕ) → moment_where (has_bit 2 (bits top own root)) (moment_or_zero own) ≡ own
 own-again true None None = refl
 own-again true None (Some r) = refl
 own-again true (Some o) None = refl
@@ -47,7 +46,7 @@ own-again false None (Some r) = refl
 own-again false (Some o) None = refl
 own-again false (Some o) (Some r) = refl
 
-root-again : (top : Bool) (own root : Option ℕ) → moment_where (has_bit 4 (bits top own root)) (moment_or_zero root) ≡ root
+pub root-again : (top : Bool) (own root : Option ℕ) → moment_where (has_bit 4 (bits top own root)) (moment_or_zero root) ≡ root
 root-again true None None = refl
 root-again true None (Some r) = refl
 root-again true (Some o) None = refl
@@ -63,7 +62,7 @@ test-or true None holds = refl
 test-or true (Some at) holds = holds
 test-or false o holds = refl
 
-bits-again : (b x y : ℕ) → b ≤ 7 → bits (has_bit 1 b) (moment_where (has_bit 2 b) x) (moment_where (has_bit 4 b) y) ≡ b
+pub bits-again : (b x y : ℕ) → b ≤ 7 → bits (has_bit 1 b) (moment_where (has_bit 2 b) x) (moment_where (has_bit 4 b) y) ≡ b
 bits-again zero x y most = refl
 bits-again (suc zero) x y most = refl
 bits-again (suc (suc zero)) x y most = refl
@@ -74,7 +73,7 @@ bits-again (suc (suc (suc (suc (suc (suc zero)))))) x y most = refl
 bits-again (suc (suc (suc (suc (suc (suc (suc zero))))))) x y most = refl
 bits-again (suc (suc (suc (suc (suc (suc (suc (suc b)))))))) x y most = absurd (omega arith)
 
-moment-again : (has : Bool) (x : ℕ) → moment_or_zero (moment_where has x) ≡ (if has then x else 0)
+pub moment-again : (has : Bool) (x : ℕ) → moment_or_zero (moment_where has x) ≡ (if has then x else 0)
 moment-again true x = refl
 moment-again false x = refl
 
@@ -192,21 +191,14 @@ guard-some true x y e = (refl, cc)
 guard-some false x y e = absurd cc
 
 -- the tests of a slot that is used below
-slot-parts : (s : MessageSlot) → is_free_slot s ≡ true → (s.mark ≡ 1) × ((s.branch ≡ 0) × (s.bits ≤ 7))
+pub slot-parts : (s : MessageSlot) → is_free_slot s ≡ true → (s.mark ≡ 1) × ((s.branch ≡ 0) × (s.bits ≤ 7))
 slot-parts s holds =
     let t1 = s.mark == 1 in
     let t2 = s.branch == 0 in
     let t3 = nat_le s.bits 7 in
     let t4 = is_priority s.priority in
     let t5 = is_priority s.root_priority in
-    let t6 = nat_le s.available last_moment in
-    let t7 = not (has_bit 2 s.bits) || nat_le s.expiration last_moment in
-    let t8 = nat_le s.root_available last_moment in
-    let t9 = not (has_bit 4 s.bits) || nat_le s.root_expiration last_moment in
-    let a8 = (and_parts (t1 && t2 && t3 && t4 && t5 && t6 && t7 && t8) t9 holds).0 in
-    let a7 = (and_parts (t1 && t2 && t3 && t4 && t5 && t6 && t7) t8 a8).0 in
-    let a6 = (and_parts (t1 && t2 && t3 && t4 && t5 && t6) t7 a7).0 in
-    let a5 = (and_parts (t1 && t2 && t3 && t4 && t5) t6 a6).0 in
+    let a5 = (and_parts (t1 && t2 && t3 && t4 && t5) (has_moments s) holds).0 in
     let a4 = (and_parts (t1 && t2 && t3 && t4) t5 a5).0 in
     let a3 = (and_parts (t1 && t2 && t3) t4 a4).0 in
     let a2 = and_parts (t1 && t2) t3 a3 in

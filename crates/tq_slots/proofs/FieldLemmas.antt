@@ -1,10 +1,10 @@
 -- A field that was spelt among others is read at its place.
-use Rattle.std.proofs.Common.{◌≡◌, ℕ, zero, suc, ◌+◌, ◌^◌, ◌<◌, ◌≤◌, List, [], ◌∷◌, ◌++◌, length, take, drop, get_or, refl, sym, ap, subst, ◌∙◌, append_assoc, arith}
+use Rattle.std.proofs.Common.{◌≡◌, ℕ, zero, suc, ◌+◌, ◌^◌, ◌<◌, List, [], ◌∷◌, ◌++◌, length, take, get_or, refl, sym, ap, subst, ◌∙◌, append_assoc, arith}
 use Rattle.std.specs.List.{AllByRecursion}
 use Rattle.std.proofs.lemmas.List.{take_at, length-append}
-use Rattle.tq_field.specs.Digits.{AreBytes, digits, number_of}
+use Rattle.tq_field.specs.Digits.{digits, number_of}
 use Rattle.tq_field.specs.Places.{run_at, number_at}
-use Rattle.tq_field.proofs.Numbers.{length-digits, digits-one, digits-AreBytes, number_of-digits}
+use Rattle.tq_field.proofs.Numbers.{length-digits, digits-one, number_of-digits}
 use Rattle.tq_field.proofs.Runs.{run_at-append_right, get_or-run_at}
 use Rattle.tq_slots.specs.Fields.{Field, Number, Run, field_bytes, fields_spelt, IsField, AreFields}
 

@@ -21,3 +21,5 @@ pub mod RecordLemmas
 pub mod FirstPageLemmas
 pub mod HeaderLemmas
 pub mod EntryLemmas
+pub mod QueueFormLemmas
+pub mod SlotImageLemmas

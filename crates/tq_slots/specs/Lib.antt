@@ -9,3 +9,5 @@ pub mod SlotsLaw
 pub mod Fields
 pub mod RecordForm
 pub mod MessageForm
+pub mod QueueForm
+pub mod SlotImages

@@ -1,5 +1,5 @@
 -- How the header of a message is spelt and read, and which entry a message slot and a header make together.
-use Rattle.std.specs.Prelude.{ℕ, zero, suc, ◌≡◌, ◌+◌, ◌-◌, ◌*◌, ◌/◌, ◌%◌, ◌<◌, ◌≤◌, ◌==◌, ◌&&◌, ◌||◌, nat_le, nat_lt, not, Bool, true, false, if◌then◌else◌, List, [], ◌∷◌, ◌++◌, length, get_or, Option, Some, None, ℤ, pos, negsuc}
+use Rattle.std.specs.Prelude.{ℕ, zero, suc, ◌≡◌, ◌+◌, ◌-◌, ◌/◌, ◌%◌, ◌<◌, ◌≤◌, ◌==◌, ◌&&◌, ◌||◌, nat_le, nat_lt, not, Bool, true, false, if◌then◌else◌, List, [], ◌∷◌, ◌++◌, length, get_or, Option, Some, None, ℤ, pos, negsuc}
 use Rattle.std.specs.List.{flat_map, AllByRecursion}
 use Rattle.tq_field.specs.Digits.{digits}
 use Rattle.tq_field.specs.Places.{run_at, number_at}
@@ -9,10 +9,12 @@ use Rattle.tq_types.specs.declared.labels.Label.{Label}
 use Rattle.tq_types.specs.declared.messages.Qos.TheVariants.{Persistent}
 use Rattle.tq_types.specs.declared.messages.AskedQos.{AskedQos}
 use Rattle.tq_types.specs.declared.messages.AskedQos.TheVariants as asked
+use Rattle.tq_types.specs.declared.messages.Entry.{Entry as HeldEntry}
+use Rattle.tq_types.specs.declared.messages.Mark.TheVariants as marks
 use Rattle.tq_types.specs.Placed.{own_arrival}
 use Rattle.tq_types.specs.Path.{arrival_eq}
 use Rattle.tq_model.specs.Names.{is_name}
-use Rattle.tq_model.specs.Space.{Mark, Free, Stored, body_length, Message, Entry, is_free, is_persistent}
+use Rattle.tq_model.specs.Space.{Free, Stored, body_length, Message, Entry}
 use Rattle.tq_slots.specs.declared.record.MessageSlot.{MessageSlot}
 use Rattle.tq_slots.specs.declared.message.Header.{Header}
 use Rattle.tq_slots.specs.Fields.{Field, Number, Run, fields_spelt}
@@ -212,6 +214,10 @@ moment_where has at = if has then Some at else None
 abbrev pub slot_arrival : MessageSlot → Arrival
 slot_arrival s = record { epoch = s.epoch; number = s.number }
 
+-- the path of a label: none, or the header's
+abbrev pub slot_path : MessageSlot → Header → List Arrival
+slot_path s h = if s.numbers == 0 then [] else h.path
+
 abbrev pub label_of : MessageSlot → Header → Label
 label_of s h =
     record {
@@ -222,7 +228,7 @@ label_of s h =
         expiration = moment_where (has_bit 4 s.bits) s.root_expiration;
         arrival = record { epoch = s.root_epoch; number = s.root_number };
       };
-      path = if s.numbers == 0 then [] else h.path;
+      path = slot_path s h;
     }
 
 -- the entry that they make in a space of this site and number
@@ -254,13 +260,15 @@ last_moment = 253402300799
 abbrev pub is_priority : ℕ → Bool
 is_priority n = nat_le 1 n && nat_le n 100
 
+-- whether the times of a slot are moments, an expiration where a bit says that there is one
+abbrev pub has_moments : MessageSlot → Bool
+has_moments s =
+    nat_le s.available last_moment && (not (has_bit 2 s.bits) || nat_le s.expiration last_moment)
+    && nat_le s.root_available last_moment && (not (has_bit 4 s.bits) || nat_le s.root_expiration last_moment)
+
 -- whether a slot is that of a Free entry, its numbers being within their limits
 abbrev pub is_free_slot : MessageSlot → Bool
-is_free_slot s =
-    s.mark == 1 && s.branch == 0 && nat_le s.bits 7 && is_priority s.priority && is_priority s.root_priority && nat_le s.available last_moment
-    && (not (has_bit 2 s.bits) || nat_le s.expiration last_moment)
-    && nat_le s.root_available last_moment
-    && (not (has_bit 4 s.bits) || nat_le s.root_expiration last_moment)
+is_free_slot s = s.mark == 1 && s.branch == 0 && nat_le s.bits 7 && is_priority s.priority && is_priority s.root_priority && has_moments s
 
 -- whether a slot and a header are of one message: one arrival, of which the label ends, and no path or the header's
 abbrev pub go_together : MessageSlot → Header → Bool
@@ -270,6 +278,30 @@ go_together s h =
 -- The entry of a message slot and the header at its first page, for now of a Free one; none where they break a rule.
 unfoldable pub entry_of_slot : ℕ → ℕ → MessageSlot → Header → Option Entry
 entry_of_slot site number s h = if is_free_slot s && go_together s h then Some (entry_with site number s h) else None
+
+-- an entry as it is held in a queue, with that body
+abbrev pub held_entry : ℕ → List ℕ → Entry → HeldEntry
+held_entry queue body e =
+    let m = e.message in
+    record {
+      queue = queue;
+      label = e.label;
+      mark = marks.Free;
+      message = record {
+        id = m.id;
+        corr = m.corr;
+        replyq = m.replyq;
+        failq = m.failq;
+        priority = m.priority;
+        available = m.available;
+        expiration = m.expiration;
+        qos = m.qos;
+        reply_qos = m.reply_qos;
+        urcode = m.urcode;
+        retries = m.retries;
+        body = body;
+      };
+    }
 
 -- a slot without what is not read of it
 abbrev pub read_slot : MessageSlot → MessageSlot
@@ -281,7 +313,7 @@ read_slot s =
 
 -- a header without what is not read of it beside this slot
 abbrev pub read_header : MessageSlot → Header → Header
-read_header s h = record h { path = if s.numbers == 0 then [] else h.path }
+read_header s h = record h { path = slot_path s h }
 
 -- a moment within its limit, where there is one
 abbrev pub is_moment_or_none : Option ℕ → Bool

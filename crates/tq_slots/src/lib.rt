@@ -2,13 +2,17 @@
 //! makes of others, and how records and messages are spelt in bytes.
 #![tactic(auto)]
 
+mod images;
 mod message;
+mod queue;
 mod record;
 
 ghost use Rattle.tq_slots.specs.SlotsLaw.{BytesLaw, ChainLaw, CrashLaw, CreateLaw, EnqueueLaw, FirstLaw, LoadLaw};
 ghost use Rattle.tq_slots.specs.SlotsLaw.{PagesLaw, PlaceLaw, PlanLaw, ReleaseLaw, RemoveLaw, RoomLaw, SetsLaw, StartLaw};
 
+pub use images::records_make_slots;
 pub use message::{Header, entries_have_slots};
+pub use queue::queues_have_slots;
 pub use record::{BranchSlot, MessageSlot, QueueSlot, Rec, RecKind, Set};
 
 /// The law between plans and slots, on lists alone, with any number of moves in one plan.

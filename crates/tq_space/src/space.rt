@@ -529,6 +529,13 @@ impl Space {
         self.messages < u64::from(self.limits.messages) && pages_for(body) <= pages
     }
 
+    /// How many messages the space has.
+    pub fn message_count(&self) -> u64
+        ensures { result ≡ messages_held (space_of self.now.held) }
+    {
+        self.messages
+    }
+
     /// The most queues that the space may have.
     pub fn queue_limit(&self) -> u16
         ensures { result ≡ self.now.held.limits.queues }

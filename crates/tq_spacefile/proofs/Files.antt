@@ -175,7 +175,7 @@ file_epochs f epoch image is = has_space_epochs (place_in f) (clusters_in f) epo
 
 -- ---- a space that was formatted
 
-formatted_space : (place : SpacePlace) (clusters : List ℕ) (shape : Shape) (epoch : ℕ) (image : List ℕ) → shape.pages ≡ place.pages
+pub formatted_space : (place : SpacePlace) (clusters : List ℕ) (shape : Shape) (epoch : ℕ) (image : List ℕ) → shape.pages ≡ place.pages
     → IsFormatted shape clusters image → reaches clusters image ≡ true
     → HasSpace place clusters epoch (empty_space shape place.site place.number) 0 image
 formatted_space place clusters shape epoch image pages is reach =

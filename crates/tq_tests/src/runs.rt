@@ -5,6 +5,7 @@ ghost use Rattle.std.specs.Prelude.{◌<◌};
 mod faults;
 mod messages;
 mod serial;
+mod spaces;
 mod stops;
 
 use std::alloc::{AllocError, Global};

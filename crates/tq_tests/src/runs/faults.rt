@@ -353,25 +353,25 @@ const MESSAGE: &str = "OK data=\"a\" urcode=0";
 
 // From one call to another: the end where it fails, and what a dequeue of the next run is answered.
 const CALLS: [(u64, u64, End, &str); 16] = [
-    // attach, sync, length, three reads, the next epoch in four calls, line 0, the script, its end
-    (0, 10, End::Stop(Status::DeviceFault), NO_SPACE),
-    (10, 11, End::Stop(Status::WriteFault), NO_SPACE),
-    (11, 13, End::Stop(Status::ReadFault), NO_SPACE),
+    // attach, sync, length, six reads, the next epoch in five calls, line 0, the script, its end
+    (0, 14, End::Stop(Status::DeviceFault), NO_SPACE),
+    (14, 15, End::Stop(Status::WriteFault), NO_SPACE),
+    (15, 17, End::Stop(Status::ReadFault), NO_SPACE),
     // the length in four calls, the first page in two, the table in four
-    (13, 22, End::Down, NO_SPACE),
-    (22, 23, End::Down, NO_QUEUE),
-    (23, 24, End::Stop(Status::WriteFault), NO_QUEUE),
+    (17, 26, End::Down, NO_SPACE),
+    (26, 27, End::Down, NO_QUEUE),
+    (27, 28, End::Stop(Status::WriteFault), NO_QUEUE),
     // each record in two calls, and its gate in two
-    (24, 27, End::Down, NO_QUEUE),
-    (27, 28, End::Down, NO_MESSAGE),
-    (28, 29, End::Stop(Status::WriteFault), NO_MESSAGE),
-    (29, 32, End::Down, NO_MESSAGE),
-    (32, 33, End::Down, MESSAGE),
-    (33, 34, End::Stop(Status::WriteFault), MESSAGE),
-    (34, 37, End::Down, MESSAGE),
-    (37, 38, End::Down, NO_MESSAGE),
-    (38, 39, End::Stop(Status::WriteFault), NO_MESSAGE),
-    (39, 40, End::Up, NO_MESSAGE),
+    (28, 31, End::Down, NO_QUEUE),
+    (31, 32, End::Down, NO_MESSAGE),
+    (32, 33, End::Stop(Status::WriteFault), NO_MESSAGE),
+    (33, 36, End::Down, NO_MESSAGE),
+    (36, 37, End::Down, MESSAGE),
+    (37, 38, End::Stop(Status::WriteFault), MESSAGE),
+    (38, 41, End::Down, MESSAGE),
+    (41, 42, End::Down, NO_MESSAGE),
+    (42, 43, End::Stop(Status::WriteFault), NO_MESSAGE),
+    (43, 44, End::Up, NO_MESSAGE),
 ];
 
 const SPACE_LINES: &[u8] = b"qspacecreate S dev=0 pages=64 queues=4 trans=4 msgs=16 error=- memory=0
@@ -445,10 +445,10 @@ fn each_failing_kind_has_its_status(rt: HostRuntime) -> Result<(), Fail> {
         (CallKind::Length, 0, Status::DeviceFault, "", 3),
         // the device, and then the space: its first page, the base and the log
         (CallKind::Read, 0, Status::DeviceFault, "", 3),
-        (CallKind::Read, 3, Status::DeviceFault, "", 3),
-        (CallKind::Read, 4, Status::DeviceFault, "", 3),
-        (CallKind::Read, 5, Status::DeviceFault, "", 3),
-        (CallKind::Read, 6, Status::Done, both.as_str(), 4),
+        (CallKind::Read, 6, Status::DeviceFault, "", 3),
+        (CallKind::Read, 7, Status::DeviceFault, "", 3),
+        (CallKind::Read, 8, Status::DeviceFault, "", 3),
+        (CallKind::Read, 9, Status::Done, both.as_str(), 4),
         (CallKind::SetLength, 0, Status::Done, both.as_str(), 4),
         (CallKind::Write, 0, Status::DeviceFault, "", 3),
         (CallKind::Sync, 0, Status::DeviceFault, "", 3),

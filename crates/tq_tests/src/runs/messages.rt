@@ -302,8 +302,8 @@ fn refusals_of_spaces_and_queues_come_in_their_order(rt: HostRuntime) -> Result<
         ([1, 64, 4, 4, 16, 0], "NODEVICE"),
         ([0, 0, 4, 4, 16, 0], "RANGE field=pages"),
         ([0, 45, 4, 4, 16, 0], "SMALL overhead=45 pages=45"),
-        ([0, 65, 4, 4, 16, 0], "TABLEFULL"),
-        ([0, 46, 4, 4, 16, 0], "TABLEFULL"),
+        ([0, 65, 4, 4, 16, 0], "LACK need=3 free=0"),
+        ([0, 46, 4, 4, 16, 0], "LACK need=2 free=0"),
     ];
     let mut sheet = Sheet::new(alloc, MADE)?;
     for (at, (fields, answer)) in rows.iter().enumerate() {

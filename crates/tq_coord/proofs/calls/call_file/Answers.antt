@@ -6,8 +6,7 @@ use Rattle.tq_spacefile.specs.Commit.{AreReady}
 use Rattle.tq_coord.specs.declared.planning.Planned.{Planned}
 use Rattle.tq_coord.specs.declared.planning.Planned.TheVariants.{Granted}
 use Rattle.tq_coord.specs.Calls.{IsPlanned, IsSameOrChanged, outcome_in, logged_outcome_in}
-use Rattle.tq_coord.proofs.CallLemmas.{stops_same, stops_so, takes_some, called_refused, called_full, called_granted}
-use Rattle.tq_coord.proofs.CallStepLemmas.{numbers_are}
+use Rattle.tq_coord.proofs.CallLemmas.{numbers_are, stops_same, stops_so, takes_some, called_refused, called_full, called_granted}
 use Rattle.tq_coord.proofs.calls.call_file.Given.{Over}
 use Rattle.tq_coord.proofs.calls.call_file.Goals as goal
 use Rattle.tq_coord.proofs.calls.call_file.Goals.{After-commit}

@@ -1,77 +1,132 @@
-use Rattle.std.proofs.Common.{◌≡◌, ◌≤◌, inr, length, Result, Ok, Err, IfOk, refl, arith}
-use Rattle.std.proofs.lemmas.Result.{IfOk-at_ok}
-use Rattle.tq_host.proofs.Within.{in_a_row}
-use Rattle.tq_device.specs.Content.{IsAnyStep}
-use Rattle.tq_device.proofs.CreationLemmas.{any_steps}
-use Rattle.tq_device.proofs.Longer.{longer_stands}
-use Rattle.tq_spacefile.specs.File.{IsFormatted}
-use Rattle.tq_coord.specs.Spaces.{IsBareOrNew}
-use Rattle.tq_coord.specs.Together.{space_clusters}
-use Rattle.tq_coord.proofs.SpaceClusterLemmas.{space_end, end_reached, stands_beside}
-use Rattle.tq_coord.proofs.SpaceCreationLemmas.{growing, preparing, entering, still_bare, formatted_kept}
-use Rattle.tq_coord.proofs.DeviceStopLemmas.{settled_all}
+use Rattle.std.proofs.Common.{◌≡◌, ◌≤◌, length, sym, subst, arith}
+use Rattle.std.specs.Prelude.{true}
+use Rattle.tq_host.specs.Within.{KeepsRest}
+use Rattle.tq_host.proofs.QuietLemmas.{rest_on}
+use Rattle.tq_extent.specs.Bytes.{reaches}
+use Rattle.tq_extent.specs.Clusters.{clusters_of}
+use Rattle.tq_model.specs.DeviceForm.{header_bytes}
+use Rattle.tq_devtab.specs.InMemory.{IsTableOf}
+use Rattle.tq_devtab.specs.Reserved.{space_of}
+use Rattle.tq_coord.proofs.NewSpaceLemmas.{map_reached, new_pages, table_there, pages_stay, stop_grown, stop_paged, stop_entered}
 use Rattle.tq_coord.proofs.spaces.lay_out.Goals as goal
 
-if_ok : {T E : Type 0} (r : Result T E) (P : T → Type 0) → ((x : T) → r ≡ Ok x → P x) → IfOk r P
-if_ok (Ok x) P f = f x refl
-if_ok (Err e) P f = tt
-
 pub returns-in_err-grow-clause-stop : goal.returns-in_err-grow-clause-stop
-returns-in_err-grow-clause-stop g c = λ stand.
-    let d = c.args.content.now in
-    let shape = c.args.shape.now in
-    still_bare d c.args.name shape _ c.requires.map _ _ (growing d c.args.name shape _ c.requires.map _ _ c.requires.bare stand c.grow.ensures.stop)
+returns-in_err-grow-clause-stop g c = λ have.
+    stop_grown c.args.table.now c.requires.dev c.requires.number (space_of c.args.reserved) c.args.shape.now c.requires.reserved c.end.result
+    _ _ have c.grow.ensures.stop
 
 pub format-requires-clause-reach : goal.format-requires-clause-reach
-format-requires-clause-reach g c = λ t.
-    let grown = c.in_ok-grow.ensures.done t in
-    end_reached c.args.shape.now.pages _ c.requires.map _ (omega (arith, grown.1, c.clusters_for.ensures, c.from.ensures))
+format-requires-clause-reach g c =
+    let t = c.args.table.now in
+    let n = space_of c.args.reserved in
+    let shape = c.args.shape.now in
+    let old = g.H.Host.view c.args.host.now in
+    let grown = g.H.Host.view c.grow.new.host in
+    map_reached t c.requires.dev c.requires.number n shape c.requires.reserved c.end.result old grown
+    g.H.Host.tells c.args.map.now c.requires.map c.end.ensures.reach c.in_ok-grow.ensures.done grown
 
 pub returns-in_err-format-clause-stop : goal.returns-in_err-format-clause-stop
-returns-in_err-format-clause-stop g c = λ stand.
-    let d = c.args.content.now in
-    let name = c.args.name in
+returns-in_err-format-clause-stop g c = λ have.
+    let t = c.args.table.now in
+    let n = space_of c.args.reserved in
     let shape = c.args.shape.now in
-    let grown = c.in_ok-grow.ensures.done in
-    let long = settled_all (λ image. space_end shape.pages ≤ length image) _ (g.met.H.Host.lawful c.grow.new.host) c.in_ok-grow.ensures.settled (λ t. omega (arith, (grown t).1, c.clusters_for.ensures, c.from.ensures)) in
-    let formatted = c.format.ensures.stop (λ image may. end_reached shape.pages _ c.requires.map image (long image may)) in
-    still_bare d name shape _ c.requires.map _ _ (preparing d name shape _ c.requires.map _ _ _ c.requires.bare stand c.grow.ensures.stop formatted)
+    let old = g.H.Host.view c.args.host.now in
+    let grown = g.H.Host.view c.grow.new.host in
+    let formatted = g.H.Host.view c.format.new.host in
+    stop_paged t c.requires.dev c.requires.number n shape c.requires.reserved c.end.result old grown
+    g.H.Host.tells c.args.map.now c.requires.map c.end.ensures.reach c.in_ok-grow.ensures.done formatted
+    (g.met.H.Host.lawful c.grow.new.host) c.in_ok-grow.ensures.settled have c.grow.ensures.stop c.format.ensures.stop
 
-pub enter-requires-clause-holds : goal.enter-requires-clause-holds
-enter-requires-clause-holds g c = λ t.
-    let d = c.args.content.now in
-    let grown = c.in_ok-grow.ensures.done t in
-    stands_beside c.args.shape.now.pages _ c.requires.map d _ _ (c.in_ok-format.ensures.kept t) (longer_stands d _ _ c.requires.bare grown.0 (c.requires.holds t))
+pub enter-requires-clause-size : goal.enter-requires-clause-size
+enter-requires-clause-size g c = λ told.
+    let formatted = g.H.Host.view c.format.new.host in
+    subst (λ d. header_bytes ≤ length (formatted.reads d)) (sym c.requires.dev)
+    (omega (arith, (c.requires.holds told).has.size, (c.in_ok-grow.ensures.done told).0.longer, (c.in_ok-format.ensures.kept told).size))
 
 pub enter-requires-clause-reach : goal.enter-requires-clause-reach
-enter-requires-clause-reach g c = λ t.
-    let grown = c.in_ok-grow.ensures.done t in
-    let kept = c.in_ok-format.ensures.kept t in
-    omega (arith, grown.1, kept.size, c.clusters_for.ensures, c.from.ensures)
-
-pub returns-clause-done : goal.returns-clause-done
-returns-clause-done g c = if_ok c.enter.result _ (λ x ok. λ t.
+enter-requires-clause-reach g c = λ told.
+    let t = c.args.table.now in
+    let n = space_of c.args.reserved in
     let shape = c.args.shape.now in
-    let grown = c.in_ok-grow.ensures.done t in
-    let laid = c.in_ok-format.ensures.kept t in
-    let kept = IfOk-at_ok _ ok c.enter.ensures.kept t in
-    record {
-      stands = IfOk-at_ok _ ok c.enter.ensures.done t;
-      formatted = formatted_kept shape _ _ _ c.requires.map kept.size (λ k le. kept.bytes k (inr (omega arith)) (inr (omega arith))) (c.in_ok-format.ensures.done t);
-      reach = end_reached shape.pages (space_clusters shape.pages) refl _ (omega (arith, grown.1, laid.size, kept.size, c.clusters_for.ensures, c.from.ensures));
-    })
+    let old = g.H.Host.view c.args.host.now in
+    let grown = g.H.Host.view c.grow.new.host in
+    let formatted = g.H.Host.view c.format.new.host in
+    subst (λ d. reaches (clusters_of n.extents) (formatted.reads d) ≡ true) (sym c.requires.dev)
+    (new_pages t c.requires.dev c.requires.number n shape c.requires.reserved c.end.result old grown
+    g.H.Host.tells c.args.map.now c.requires.map c.end.ensures.reach c.in_ok-grow.ensures.done formatted
+    c.in_ok-format.ensures.kept c.in_ok-format.ensures.done told).reach
+
+pub returns-in_err-enter-clause-stop : goal.returns-in_err-enter-clause-stop
+returns-in_err-enter-clause-stop g c = λ have.
+    let t = c.args.table.now in
+    let n = space_of c.args.reserved in
+    let shape = c.args.shape.now in
+    let old = g.H.Host.view c.args.host.now in
+    let grown = g.H.Host.view c.grow.new.host in
+    let formatted = g.H.Host.view c.format.new.host in
+    let pages = new_pages t c.requires.dev c.requires.number n shape c.requires.reserved c.end.result old grown
+    g.H.Host.tells c.args.map.now c.requires.map c.end.ensures.reach c.in_ok-grow.ensures.done formatted
+    c.in_ok-format.ensures.kept c.in_ok-format.ensures.done in
+    stop_entered t c.requires.dev c.requires.number n shape c.requires.reserved c.end.result old grown
+    g.H.Host.tells c.args.map.now c.requires.map c.end.ensures.reach c.in_ok-grow.ensures.done formatted
+    (g.met.H.Host.lawful c.grow.new.host) c.in_ok-grow.ensures.settled have c.grow.ensures.stop c.format.ensures.stop
+    (g.H.Host.view c.enter.new.host) (g.met.H.Host.lawful c.format.new.host) c.in_ok-format.ensures.settled pages c.enter.ensures.stop
+
+pub returns-in_err-enter-clause-rest : goal.returns-in_err-enter-clause-rest
+returns-in_err-enter-clause-rest g c =
+    let old = g.H.Host.view c.args.host.now in
+    let formatted = g.H.Host.view c.format.new.host in
+    let new = g.H.Host.view c.enter.new.host in
+    rest_on 0 old formatted new (rest_on 0 old (g.H.Host.view c.grow.new.host) formatted c.grow.ensures.rest c.format.ensures.rest)
+    (subst (λ d. KeepsRest d formatted new) c.requires.dev c.enter.ensures.rest)
+
+pub returns-clause-table : goal.returns-clause-table
+returns-clause-table g c = λ told.
+    let t = c.args.table.now in
+    let n = space_of c.args.reserved in
+    let shape = c.args.shape.now in
+    let old = g.H.Host.view c.args.host.now in
+    let grown = g.H.Host.view c.grow.new.host in
+    let formatted = g.H.Host.view c.format.new.host in
+    let new = g.H.Host.view c.enter.new.host in
+    let has = table_there t c.requires.dev c.requires.number n shape c.requires.reserved c.end.result old grown
+    g.H.Host.tells c.args.map.now c.requires.map c.end.ensures.reach c.in_ok-grow.ensures.done formatted
+    c.in_ok-format.ensures.kept c.in_ok-format.ensures.done told (c.requires.holds told) in
+    subst (λ d. IsTableOf c.enter.new.self (new.reads d)) c.requires.dev
+    (c.in_ok-enter.ensures.entered told (subst (λ d. IsTableOf t (formatted.reads d)) (sym c.requires.dev) has))
+
+pub returns-clause-pages : goal.returns-clause-pages
+returns-clause-pages g c = λ told.
+    let t = c.args.table.now in
+    let n = space_of c.args.reserved in
+    let shape = c.args.shape.now in
+    let old = g.H.Host.view c.args.host.now in
+    let grown = g.H.Host.view c.grow.new.host in
+    let formatted = g.H.Host.view c.format.new.host in
+    pages_stay t c.requires.dev c.requires.number n shape c.requires.reserved c.end.result old grown
+    g.H.Host.tells c.args.map.now c.requires.map c.end.ensures.reach c.in_ok-grow.ensures.done formatted
+    c.in_ok-format.ensures.kept c.in_ok-format.ensures.done (g.H.Host.view c.enter.new.host) (c.in_ok-enter.ensures.outside told) told
 
 pub returns-clause-stop : goal.returns-clause-stop
-returns-clause-stop g c = λ stand.
-    let d = c.args.content.now in
-    let name = c.args.name in
+returns-clause-stop g c = λ have.
+    let t = c.args.table.now in
+    let n = space_of c.args.reserved in
     let shape = c.args.shape.now in
-    let own = c.requires.map in
-    let grown = c.in_ok-grow.ensures.done in
-    let long = settled_all (λ image. space_end shape.pages ≤ length image) _ (g.met.H.Host.lawful c.grow.new.host) c.in_ok-grow.ensures.settled (λ t. omega (arith, (grown t).1, c.clusters_for.ensures, c.from.ensures)) in
-    let formatted = c.format.ensures.stop (λ image may. end_reached shape.pages _ own image (long image may)) in
-    let both = preparing d name shape _ own _ _ _ c.requires.bare stand c.grow.ensures.stop formatted in
-    let made = settled_all (λ image. IsFormatted shape c.args.map.now image × (space_end shape.pages ≤ length image)) _ (g.met.H.Host.lawful c.format.new.host) c.in_ok-format.ensures.settled
-    (λ t. (c.in_ok-format.ensures.done t, omega (arith, (grown t).1, (c.in_ok-format.ensures.kept t).size, c.clusters_for.ensures, c.from.ensures))) in
-    in_a_row 0 IsAnyStep any_steps (IsBareOrNew d name shape) _ _ _ (still_bare d name shape _ own _ _ both)
-    (entering d name shape _ own _ _ made (c.enter.ensures.stop (λ image may. ((both.own image may).now, (made image may).1))))
+    let old = g.H.Host.view c.args.host.now in
+    let grown = g.H.Host.view c.grow.new.host in
+    let formatted = g.H.Host.view c.format.new.host in
+    let pages = new_pages t c.requires.dev c.requires.number n shape c.requires.reserved c.end.result old grown
+    g.H.Host.tells c.args.map.now c.requires.map c.end.ensures.reach c.in_ok-grow.ensures.done formatted
+    c.in_ok-format.ensures.kept c.in_ok-format.ensures.done in
+    stop_entered t c.requires.dev c.requires.number n shape c.requires.reserved c.end.result old grown
+    g.H.Host.tells c.args.map.now c.requires.map c.end.ensures.reach c.in_ok-grow.ensures.done formatted
+    (g.met.H.Host.lawful c.grow.new.host) c.in_ok-grow.ensures.settled have c.grow.ensures.stop c.format.ensures.stop
+    (g.H.Host.view c.enter.new.host) (g.met.H.Host.lawful c.format.new.host) c.in_ok-format.ensures.settled pages c.enter.ensures.stop
+
+pub returns-clause-rest : goal.returns-clause-rest
+returns-clause-rest g c =
+    let old = g.H.Host.view c.args.host.now in
+    let formatted = g.H.Host.view c.format.new.host in
+    let new = g.H.Host.view c.enter.new.host in
+    rest_on 0 old formatted new (rest_on 0 old (g.H.Host.view c.grow.new.host) formatted c.grow.ensures.rest c.format.ensures.rest)
+    (subst (λ d. KeepsRest d formatted new) c.requires.dev c.enter.ensures.rest)

@@ -1,6 +1,6 @@
-use Rattle.std.proofs.Common.{inl, ◌-◌, ◌∙◌, arith}
+use Rattle.std.proofs.Common.{inl, ◌+◌, ◌-◌, ◌∙◌, arith}
 use Rattle.tq_host.specs.Calls.{IsPulled}
-use Rattle.tq_model.specs.DeviceForm.{header_bytes}
+use Rattle.tq_model.specs.DeviceForm.{header_bytes, journal_a, page_bytes}
 use Rattle.tq_devtab.specs.Device.{IsBlank, IsBlankOr, new_part}
 use Rattle.tq_devtab.specs.Made.{IsLaidOut}
 use Rattle.tq_devtab.proofs.CreationLemmas.{pulled_open}
@@ -42,4 +42,5 @@ returns-clause-first g c = on_ok c.resize-2.result c.resize-2.ensures.done (λ r
     record {
       table = longer.front 512 (omega (arith, laid.size)) ∙ laid.first.table;
       journal = longer.front 513 (omega (arith, laid.size)) ∙ laid.first.journal;
+      shut = longer.front (journal_a + page_bytes) (omega (arith, laid.size)) ∙ laid.first.shut;
     })

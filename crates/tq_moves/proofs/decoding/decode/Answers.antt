@@ -1,7 +1,7 @@
 use Rattle.std.proofs.Common.{Result, ◌<◌, subst, ℕ, arith}
 use Rattle.std.proofs.lemmas.List.Elements.{All-from_get_or}
 use Rattle.tq_field.specs.Digits.{AreBytes}
-use Rattle.tq_slots.specs.RecordForm.{Record, record_view, record_in}
+use Rattle.tq_slots.specs.RecordForm.{Record, record_view}
 use Rattle.tq_slots.proofs.RecordLemmas.{record-said}
 use Rattle.tq_moves.specs.Given.{Gives}
 use Rattle.tq_moves.proofs.SetLemmas.{found-by}

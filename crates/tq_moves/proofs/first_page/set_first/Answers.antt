@@ -1,4 +1,4 @@
-use Rattle.std.proofs.Common.{◌≡◌, ◌+◌, ◌*◌, ◌<◌, ◌≤◌, List, ℕ, sym, ap, subst, ◌∙◌, arith}
+use Rattle.std.proofs.Common.{◌≡◌, ◌+◌, ◌*◌, ◌<◌, List, ℕ, sym, ap, subst, ◌∙◌, arith}
 use Rattle.tq_field.specs.Places.{with_number}
 use Rattle.tq_gate.specs.Frame.{payload_in}
 use Rattle.tq_slots.specs.declared.record.Set.{Set}

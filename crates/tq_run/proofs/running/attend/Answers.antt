@@ -100,3 +100,7 @@ returns-in_err-answer_script-clause-ready_first g c = λ t.
 pub returns-clause-ready_first : goal.returns-clause-ready_first
 returns-clause-ready_first g c = λ t.
     taken_behind (g.H.Host.view c.args.host.now).streams (g.H.Host.view c.begin.new.host).streams (g.H.Host.view c.answer_script.new.host).streams (c.in_ok-state.ensures.begun t).output c.begin.ensures.input.takes (c.answer_script.ensures.takes t)
+
+pub returns-clause-others : goal.returns-clause-others
+returns-clause-others g c =
+    others_on (g.H.Host.view c.args.host.now) (g.H.Host.view c.begin.new.host) (g.H.Host.view c.answer_script.new.host) c.begin.ensures.others c.answer_script.ensures.others

@@ -13,9 +13,9 @@ use Rattle.tq_coord.specs.Manager.{is_bootable}
 use Rattle.tq_coord.proofs.ImageLemmas.{same_found, alone_on}
 use Rattle.tq_model.proofs.LineText.{length-line_text}
 use Rattle.tq_run.proofs.Line0Lemmas.{attach_over, boot_ended, first_over, first_started, calm_none, calm_given, begun_given}
-use Rattle.tq_run.proofs.CountLemmas.{at_err, err_is, same_Err, damaged_boot}
+use Rattle.tq_run.proofs.CountLemmas.{at_err, err_is, same_Err, damaged_boot, line_not_damaged}
 use Rattle.tq_run.specs.Output.{AreAttached, TellsAttached}
-use Rattle.tq_run.proofs.LeftAloneLemmas.{alone_attached}
+use Rattle.tq_run.proofs.LeftAloneLemmas.{alone_attached, contradicts, was_bootable}
 use Rattle.tq_run.proofs.AttachLemmas.{attached_none, attached_given, one_attached}
 use Rattle.tq_model.specs.Site.{Site}
 use Rattle.tq_model.specs.Reading.{site_found}
@@ -155,3 +155,13 @@ returns-in_err-give_answer-clause-others g c = beside g (goal.at.returns-in_err-
 
 pub returns-clause-others : goal.returns-clause-others
 returns-clause-others g c = beside g (goal.at.returns-clause-others g c).After-give_answer
+
+pub returns-in_err-give_answer-clause-damaged : goal.returns-in_err-give_answer-clause-damaged
+returns-in_err-give_answer-clause-damaged g c = λ is t.
+    let ends = err_is _ _ c.from_residual-in_err-give_answer.ensures.1 in
+    absurd (line_not_damaged c.in_err-give_answer.field-0.0 (same_Err _ _ (sym ends ∙ is)))
+
+pub returns-in_err-give_answer-clause-left_alone : goal.returns-in_err-give_answer-clause-left_alone
+returns-in_err-give_answer-clause-left_alone g c = λ t none.
+    let b = g.H.Host.view c.attach.new.self in
+    contradicts _ (was_bootable c.in_ok-manager.manager (g.H.Host.view c.args.host.now) b (g.H.Host.view c.boot.new.host) (c.attach.ensures.attached.reads 0) (c.in_ok-manager.ensures.booted t)) none

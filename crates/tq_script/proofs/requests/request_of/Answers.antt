@@ -12,3 +12,8 @@ pub returns-in-CreateQueue-clause-some : goal.returns-in-CreateQueue-clause-some
 returns-in-CreateQueue-clause-some c =
     let given = map given_of c.args.given.items in
     rw (c.create_queue.ensures given, ← c.in-CreateQueue.is) (request_exists c.args.verb _ given c.requires.values c.requires.given)
+
+pub returns-in-EraseDevice-clause-some : goal.returns-in-EraseDevice-clause-some
+returns-in-EraseDevice-clause-some c =
+    let given = map given_of c.args.given.items in
+    rw (c.erase_device.ensures given, ← c.in-EraseDevice.is) (request_exists c.args.verb _ given c.requires.values c.requires.given)

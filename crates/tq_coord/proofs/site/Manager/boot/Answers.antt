@@ -1,76 +1,93 @@
-use Rattle.std.proofs.Common.{◌<◌, ◌∙◌, List, ℕ, length, subst, ap, sym, refl}
+use Rattle.std.proofs.Common.{◌≡◌, ◌≢◌, ◌<◌, ℕ, List, Option, Result, None, Some, Ok, Err, refl, sym, ◌∙◌, ap, subst, length}
+use Rattle.std.specs.Prelude.{IfNone, IfSome}
 use Rattle.std.proofs.lemmas.Result.{IfOk-weaker}
-use Rattle.tq_device.specs.declared.content.Found.{Found}
-use Rattle.tq_device.specs.Content.{IsFoundOn, IsFoundWithin, HasContent}
-use Rattle.tq_coord.specs.Manager.{is_bootable}
-use Rattle.tq_coord.proofs.FoundLemmas.{booted_blank, damaged_device}
-use Rattle.tq_coord.proofs.DeviceStopLemmas.{settled_all}
-use Rattle.tq_coord.proofs.ImageLemmas.{same_found, alone_on}
-use Rattle.tq_coord.proofs.BootStopLemmas.{still_old, looking_booting, booted_from}
+use Rattle.tq_host.specs.View.{View, AreNow, IsSettled}
+use Rattle.tq_host.specs.Within.{WithinAll}
+use Rattle.tq_model.specs.DeviceForm.{header_bytes}
+use Rattle.tq_coord.specs.declared.site.Disk.{Disk}
+use Rattle.tq_coord.specs.declared.failure.BootFailure.{BootFailure}
+use Rattle.tq_coord.specs.declared.failure.BootFailure.TheVariants as boots
+use Rattle.tq_coord.specs.Manager.{IsLoaded}
+use Rattle.tq_coord.proofs.FoundLemmas.{booted_blank, booted_raised, last_not_bootable}
+use Rattle.tq_coord.proofs.ImageLemmas.{same_found}
+use Rattle.tq_coord.proofs.BootStopLemmas.{all_loaded, still_old, then_raised}
 use Rattle.tq_coord.proofs.FrameLemmas.{others_on, others_of_call}
-use Rattle.tq_coord.proofs.LeftAloneLemmas.{left_alone}
+use Rattle.tq_coord.proofs.LeftAloneLemmas.{left_alone, not_bootable}
 use Rattle.tq_coord.proofs.site.Manager.boot.Goals as goal
 
-pub returns-in_err-look-clause-stop : goal.returns-in_err-look-clause-stop
-returns-in_err-look-clause-stop g c = λ t sites stand found is. still_old sites found _ _ stand c.look.ensures.stop
+not_failed : (r : Result (Option Disk) BootFailure) (o : Option Disk) → r ≡ Ok o → r ≢ Err boots.Device
+not_failed r o is e = absurd (cc)
 
-pub returns-in-Blank-clause-booted : goal.returns-in-Blank-clause-booted
-returns-in-Blank-clause-booted g c = λ t.
+-- what was found
+loaded_in : (told : Type 0) (o : Option Disk) (d : Disk) (image : List ℕ) → o ≡ Some d → IfSome o (λ x. told → IsLoaded x image) → told → IsLoaded d image
+loaded_in told o d image is loaded = subst (λ (p : Option Disk). IfSome p (λ x. told → IsLoaded x image)) is loaded
+
+short_in : (told : Type 0) (o : Option Disk) (image : List ℕ) → o ≡ None → IfNone o (told → length image < header_bytes) → told → length image < header_bytes
+short_in told o image is short = subst (λ (p : Option Disk). IfNone p (told → length image < header_bytes)) is short
+
+pub returns-in_err-find-clause-stop : goal.returns-in_err-find-clause-stop
+returns-in_err-find-clause-stop g c = λ told sites stand found is. still_old sites found _ _ stand c.find.ensures.quiet
+
+pub returns-in_err-find-clause-left_alone : goal.returns-in_err-find-clause-left_alone
+returns-in_err-find-clause-left_alone g c = λ told none. left_alone _ _ c.find.ensures.quiet
+
+pub raise-requires : goal.raise-requires
+raise-requires g c = record {
+  holds = λ told. subst (IsLoaded c.in-Some.disk) (sym (c.find.ensures.quiet.still.reads 0)) (loaded_in _ _ _ _ c.in-Some.is c.in_ok-find.ensures.loaded told);
+}
+
+pub returns-in-None-clause-booted : goal.returns-in-None-clause-booted
+returns-in-None-clause-booted g c = λ told.
+    booted_blank _ _ _ refl (λ short. short) (short_in _ _ _ c.in-None.is c.in_ok-find.ensures.blank told) (c.find.ensures.quiet.still.reads 0)
+
+pub returns-in-None-clause-stop : goal.returns-in-None-clause-stop
+returns-in-None-clause-stop g c = λ told sites stand found is. still_old sites found _ _ stand c.find.ensures.quiet
+
+pub returns-in-Some-clause-booted : goal.returns-in-Some-clause-booted
+returns-in-Some-clause-booted g c =
+    let loaded = loaded_in _ _ _ _ c.in-Some.is c.in_ok-find.ensures.loaded in
+    IfOk-weaker c.raise.result _ _ (λ m raised. λ told. booted_raised c.in-Some.disk m _ _ (loaded told) (raised told)) c.raise.ensures.raised
+
+pub returns-in-Some-clause-damaged : goal.returns-in-Some-clause-damaged
+returns-in-Some-clause-damaged g c = λ e told.
+    let loaded = loaded_in _ _ _ _ c.in-Some.is c.in_ok-find.ensures.loaded in
+    last_not_bootable (g.H.Host.view c.args.host.now).reads c.in-Some.disk (loaded told) (c.raise.ensures.damaged e)
+
+pub returns-in-Some-clause-stop : goal.returns-in-Some-clause-stop
+returns-in-Some-clause-stop g c = λ told sites stand found is.
+    let d = c.in-Some.disk in
+    let start = g.met.H.Host.lawful c.args.host.now in
+    let settled = c.find.ensures.settled (not_failed _ _ c.in_ok-find.was) in
+    let loaded = loaded_in _ _ _ _ c.in-Some.is c.in_ok-find.ensures.loaded in
+    let all = all_loaded d _ _ c.find.ensures.quiet (g.met.H.Host.lawful c.find.new.host) settled loaded in
+    then_raised sites found _ _ stand c.find.ensures.quiet d _ (start.reads_an_image (start.stops_too told)) is (loaded told) all c.raise.ensures.stop
+
+pub returns-in-Some-clause-left_alone : goal.returns-in-Some-clause-left_alone
+returns-in-Some-clause-left_alone g c = λ told none.
     let a = g.H.Host.view c.args.host.now in
-    booted_blank _ a _ refl (λ short. short) (subst (λ (f : Found). IsFoundOn f (a.reads 0)) c.in-Blank.is (c.in_ok-look.ensures.found t)) (c.look.ensures.still 0)
+    let loaded = loaded_in _ _ _ _ c.in-Some.is c.in_ok-find.ensures.loaded told in
+    let same = c.raise.ensures.left_alone (not_bootable a.reads c.in-Some.disk loaded none) in
+    subst (λ (v : View). WithinAll (AreNow a) a v) (ap g.H.Host.view (sym same)) (left_alone a _ c.find.ensures.quiet)
 
-pub returns-in-Blank-clause-stop : goal.returns-in-Blank-clause-stop
-returns-in-Blank-clause-stop g c = λ t sites stand found is. still_old sites found _ _ stand c.look.ensures.stop
+pub returns-in-Some-clause-on : goal.returns-in-Some-clause-on
+returns-in-Some-clause-on g c =
+    let settled = c.find.ensures.settled (not_failed _ _ c.in_ok-find.was) in
+    let loaded = loaded_in _ _ _ _ c.in-Some.is c.in_ok-find.ensures.loaded in
+    let all = all_loaded c.in-Some.disk _ _ c.find.ensures.quiet (g.met.H.Host.lawful c.find.new.host) settled loaded in
+    IfOk-weaker c.raise.result _ _ (λ m on. on all) c.raise.ensures.on
 
-pub returns-in-Blank-clause-on : goal.returns-in-Blank-clause-on
-returns-in-Blank-clause-on g c =
-    let read = (g.H.Host.view c.args.host.now).reads 0 in
-    let IsShort : List ℕ → Type 0 = λ image. length image < 131072 in
-    settled_all IsShort _ (g.met.H.Host.lawful c.look.new.host) c.in_ok-look.ensures.settled
-    (λ t. subst IsShort (sym (c.look.ensures.still 0)) (subst (λ (f : Found). IsFoundOn f read) c.in-Blank.is (c.in_ok-look.ensures.found t)))
-
-pub boot_content-requires-clause-named : goal.boot_content-requires-clause-named
-boot_content-requires-clause-named g c = subst IsFoundWithin c.in-Holds.is c.in_ok-look.ensures.within
-
-pub boot_content-requires-clause-holds : goal.boot_content-requires-clause-holds
-boot_content-requires-clause-holds g c = λ t.
-    let image = (g.H.Host.view c.args.host.now).reads 0 in
-    subst (λ (l : List ℕ). HasContent c.in-Holds.content l) (sym (c.look.ensures.still 0)) (subst (λ (f : Found). IsFoundOn f image) c.in-Holds.is (c.in_ok-look.ensures.found t))
-
-pub returns-in-Damaged-clause-damaged : goal.returns-in-Damaged-clause-damaged
-returns-in-Damaged-clause-damaged g c = λ e t.
-    let images = (g.H.Host.view c.args.host.now).reads in
-    ap is_bootable (damaged_device images (subst (λ (f : Found). IsFoundOn f (images 0)) c.in-Damaged.is (c.in_ok-look.ensures.found t)))
-
-pub returns-in-Damaged-clause-stop : goal.returns-in-Damaged-clause-stop
-returns-in-Damaged-clause-stop g c = λ t sites stand found is. still_old sites found _ _ stand c.look.ensures.stop
-
-pub returns-in-Damaged-clause-settled : goal.returns-in-Damaged-clause-settled
-returns-in-Damaged-clause-settled g c = λ e t images may. same_found images (g.H.Host.view c.args.host.now).reads (c.in_ok-look.ensures.settled (images 0) (may 0) ∙ c.look.ensures.still 0)
-
-pub returns-in-Holds-clause-booted : goal.returns-in-Holds-clause-booted
-returns-in-Holds-clause-booted g c = IfOk-weaker c.boot_content.result _ _ (λ m booted. λ t. booted_from m _ _ _ (c.look.ensures.still 0) (booted t)) c.boot_content.ensures.booted
-
-pub returns-in-Holds-clause-damaged : goal.returns-in-Holds-clause-damaged
-returns-in-Holds-clause-damaged g c = λ e t.
-    ap is_bootable (same_found (g.H.Host.view c.args.host.now).reads (g.H.Host.view c.look.new.host).reads (sym (c.look.ensures.still 0))) ∙ c.boot_content.ensures.damaged e t
-
-pub returns-in-Holds-clause-stop : goal.returns-in-Holds-clause-stop
-returns-in-Holds-clause-stop g c = λ t sites stand found is.
-    let lawful = g.met.H.Host.lawful c.args.host.now in
-    looking_booting sites found _ _ stand c.look.ensures.stop _ (lawful.reads_an_image (lawful.stops_too t)) is (c.look.ensures.still 0) c.in_ok-look.ensures.settled (c.boot_content.ensures.stop t)
-
-pub returns-in-Holds-clause-settled : goal.returns-in-Holds-clause-settled
-returns-in-Holds-clause-settled g c = λ e t images may. same_found images (g.H.Host.view c.args.host.now).reads (c.in_ok-look.ensures.settled (images 0) (c.boot_content.ensures.images e 0 (images 0) (may 0)) ∙ c.look.ensures.still 0)
-
-pub returns-in-Holds-clause-left_alone : goal.returns-in-Holds-clause-left_alone
-returns-in-Holds-clause-left_alone g c = λ t none.
+pub returns-in-Some-clause-settled : goal.returns-in-Some-clause-settled
+returns-in-Some-clause-settled g c = λ e told images may.
     let a = g.H.Host.view c.args.host.now in
-    let b = g.H.Host.view c.look.new.host in
-    alone_on a b _ (left_alone a b c.look.ensures.stop) (c.boot_content.ensures.left_alone t (ap is_bootable (same_found b.reads a.reads (c.look.ensures.still 0)) ∙ none))
+    let settled = c.find.ensures.settled (not_failed _ _ c.in_ok-find.was) in
+    let still = subst (λ (v : View). IsSettled 0 v) (ap g.H.Host.view (sym (c.raise.ensures.untouched e))) settled in
+    let reads = ap (λ (v : View). v.reads 0) (ap g.H.Host.view (c.raise.ensures.untouched e)) in
+    same_found images a.reads (still (images 0) (may 0) ∙ reads ∙ c.find.ensures.quiet.still.reads 0)
 
-pub returns-in-Holds-clause-memory : goal.returns-in-Holds-clause-memory
-returns-in-Holds-clause-memory g c = λ e. alone_on _ _ _ (left_alone _ _ c.look.ensures.stop) (c.boot_content.ensures.memory e)
-
-pub returns-in-Holds-clause-others : goal.returns-in-Holds-clause-others
-returns-in-Holds-clause-others g c = others_on _ _ _ (others_of_call _ _ _ _ c.look.ensures.stop c.look.ensures.rest) (c.boot_content.ensures.others c.in_ok-look.ensures.settled)
+pub returns-in-Some-clause-others : goal.returns-in-Some-clause-others
+returns-in-Some-clause-others g c =
+    let quiet = c.find.ensures.quiet in
+    let settled = c.find.ensures.settled (not_failed _ _ c.in_ok-find.was) in
+    let loaded = loaded_in _ _ _ _ c.in-Some.is c.in_ok-find.ensures.loaded in
+    let all = all_loaded c.in-Some.disk _ _ quiet (g.met.H.Host.lawful c.find.new.host) settled loaded in
+    others_on _ _ _ (others_of_call _ _ _ _ quiet.stop quiet.rest) (c.raise.ensures.others all)

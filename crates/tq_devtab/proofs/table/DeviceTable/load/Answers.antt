@@ -1,4 +1,4 @@
-use Rattle.std.proofs.Common.{◌≡◌, ◌<◌, ◌≤◌, ℕ, List, length, get_or, true, false, Option, Some, None, Result, Ok, Err, refl, sym, ◌∙◌, ap, subst, arith}
+use Rattle.std.proofs.Common.{◌≡◌, ◌≤◌, ℕ, List, length, true, false, Option, Some, None, Result, Ok, Err, refl, sym, ◌∙◌, ap, subst, arith}
 use Rattle.std.specs.Prelude.{IfSome, IsErr, IsErrAnd}
 use Rattle.tq_host.specs.View.{View}
 use Rattle.tq_host.specs.Calls.{HasCauseOf, Rose}
@@ -69,8 +69,7 @@ cause_after failed whole before mid after same cause to from = record {
 -- What was read
 
 module _ (place : Option ℕ) (dev : ℕ) (h : Header) (image : List ℕ) (long : header_bytes ≤ length image) (has : HasHeader place h image) (log : GateLog)
-    (k : Content) (there : layout_of log ≡ table_layout dev) (is : IsLog log k image) (size : ℕ) (sized : size ≡ length image)
-    (bytes : (i : ℕ) → get_or k.base i 0 < 256) where
+    (k : Content) (there : layout_of log ≡ table_layout dev) (is : IsLog log k image) (size : ℕ) (sized : size ≡ length image) where
   same_base : k.base ≡ run_at (raw_header image).table table_bytes image
   same_base = base_read dev image k (subst (λ (l : Layout). content_on l image ≡ Some k) there is.is.reads)
 
@@ -169,7 +168,7 @@ returns-in_default-2-clause-damaged g c = λ damaged told.
       long,
       broken_is c.args.place dev h image long (subst (λ (i : List ℕ). HasHeader c.args.place h i) first (headed told)) log k
           (c.in_ok-loaded.ensures.layout ∙ c.table_layout.ensures)
-          (subst (λ (i : List ℕ). IsLog log k i) same read) c.in_ok-size.size sized c.in_ok-table.ensures.bytes broken,
+          (subst (λ (i : List ℕ). IsLog log k i) same read) c.in_ok-size.size sized broken,
     )
 
 pub returns-clause-table : goal.returns-clause-table
@@ -192,7 +191,7 @@ returns-clause-table g c = λ told.
     subst (λ (l : Layout). IsLog log k ((g.H.Host.view c.read_header.new.host).reads l.dev)) c.table_layout.ensures (c.in_ok-loaded.ensures.loaded told) in
     table_is c.args.place dev h image long (subst (λ (i : List ℕ). HasHeader c.args.place h i) first (headed told)) log k
     (c.in_ok-loaded.ensures.layout ∙ c.table_layout.ensures)
-    (subst (λ (i : List ℕ). IsLog log k i) same read) c.in_ok-size.size sized c.in_ok-table.ensures.bytes c.in-Some-2.table holds part number kept
+    (subst (λ (i : List ℕ). IsLog log k i) same read) c.in_ok-size.size sized c.in-Some-2.table holds part number kept
 
 pub returns-clause-dev : goal.returns-clause-dev
 returns-clause-dev g c =

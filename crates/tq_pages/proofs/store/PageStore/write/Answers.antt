@@ -1,10 +1,12 @@
 use Rattle.std.proofs.Common.{◌≡◌, ℕ, List, length, sym, ap, ◌∙◌, subst, arith}
 use Rattle.tq_extent.specs.Bytes.{owned_bytes, OnBytes}
-use Rattle.tq_pages.specs.Store.{Store, size_of, chain_pages}
-use Rattle.tq_pages.specs.Content.{chain_bytes, AreWritten, IsWritten, IsSameButPages, IsSameButFree}
+use Rattle.tq_pages.specs.Store.{Store, size_of, chain_pages, HasAdded}
+use Rattle.tq_pages.specs.Content.{chain_bytes, HasChain, AreWritten, IsWritten, IsSameButPages, IsSameButFree}
 use Rattle.tq_pages.proofs.FreeLemmas.{count_most}
 use Rattle.tq_pages.proofs.KeptLemmas.{bytes_kept, places_kept, written_bytes}
 use Rattle.tq_pages.proofs.ContentLemmas.{write_frame}
+use Rattle.tq_pages.proofs.NumberLemmas.{numbers_kept, others_stay, written_numbers}
+use Rattle.tq_extent.proofs.BytesLemmas.{length-owned}
 use Rattle.tq_pages.proofs.store.PageStore.write.Goals as goal
 
 pub overflow_cast-bytes : goal.overflow_cast-bytes
@@ -37,7 +39,42 @@ returns-clause-outside g c = λ told.
     (c.in_ok-write_chain.ensures.outside told) in
     let closed = subst (λ (x : Store). OnBytes x.clusters (IsSameButPages x.next first n) (old.reads x.dev) (new.reads x.dev)) c.self.view_is step in
     subst (λ d. IsSameButFree s (old.reads d) (new.reads d)) added.pages.dev
-    (write_frame s c.take_chain-first.new.self first (length c.args.bytes.now) added (old.reads c.take_chain-first.new.self.dev) (new.reads c.take_chain-first.new.self.dev) closed)
+    (write_frame s c.take_chain-first.new.self first (length c.args.bytes.now) added
+    (old.reads c.take_chain-first.new.self.dev) (new.reads c.take_chain-first.new.self.dev) closed)
+
+pub returns-clause-held : goal.returns-clause-held
+returns-clause-held g c = λ told.
+    let i = c.self.inside in
+    let s = c.args.self.now in
+    let here : Store = record { dev = i.dev; clusters = i.map; free = i.free; next = i.next.items; sizes = i.sizes.items } in
+    let first = c.take_chain-first.result in
+    let bytes = c.args.bytes.now in
+    let added = subst (λ (x : Store). HasAdded s first (length bytes) x) (sym c.self.view_is) c.take_chain-first.ensures in
+    let new = g.H.Host.view c.write_chain.new.host in
+    let owned = owned_bytes i.map (new.reads i.dev) in
+    let step = subst (λ (l : List ℕ). AreWritten l first (chain_pages (length bytes)) bytes owned) c.as_slice-next.ensures.value
+    (c.in_ok-write_chain.ensures.written told) in
+    let whole : IsWritten here first bytes owned = subst (λ k. AreWritten i.next.items first (chain_pages k) bytes owned) (sym added.is) step in
+    let same : owned ≡ owned_bytes s.clusters (new.reads s.dev) = λ x. owned_bytes (added.pages.clusters x) (new.reads (added.pages.dev x)) in
+    let frame = returns-clause-outside g c told in
+    let old = g.H.Host.view c.args.host.now in
+    let before = length-owned s.clusters (old.reads s.dev) (c.requires.reach told) in
+    let after = frame.bytes.size in
+    written_numbers s here first bytes (owned_bytes s.clusters (new.reads s.dev)) c.free_count-free.ensures.store added (after ∙ before)
+    (subst (λ (l : List ℕ). IsWritten here first bytes l) same whole)
+
+pub returns-clause-stay : goal.returns-clause-stay
+returns-clause-stay g c = λ told other some has.
+    let s = c.args.self.now in
+    let first = c.take_chain-first.result in
+    let size = length c.args.bytes.now in
+    let old = g.H.Host.view c.args.host.now in
+    let new = g.H.Host.view c.write_chain.new.host in
+    let frame = returns-clause-outside g c told in
+    let kept = numbers_kept s other (owned_bytes s.clusters (old.reads s.dev)) (owned_bytes s.clusters (new.reads s.dev))
+    c.free_count-free.ensures.store frame.bytes has in
+    subst (λ (x : Store). HasChain x other (owned_bytes s.clusters (new.reads s.dev))) (sym c.self.view_is)
+    (others_stay s c.take_chain-first.new.self first size other (owned_bytes s.clusters (new.reads s.dev)) c.take_chain-first.ensures some kept)
 
 pub returns-clause-bytes : goal.returns-clause-bytes
 returns-clause-bytes g c = λ told.
@@ -50,7 +87,8 @@ returns-clause-bytes g c = λ told.
     let added = c.take_chain-first.ensures in
     let owned = owned_bytes i.map (new.reads i.dev) in
     let size : size_of here first ≡ length bytes = ap (λ (x : Store). size_of x first) c.self.view_is ∙ added.is in
-    let step = subst (λ (l : List ℕ). AreWritten l first (chain_pages (length bytes)) bytes owned) c.as_slice-next.ensures.value (c.in_ok-write_chain.ensures.written told) in
+    let step = subst (λ (l : List ℕ). AreWritten l first (chain_pages (length bytes)) bytes owned) c.as_slice-next.ensures.value
+    (c.in_ok-write_chain.ensures.written told) in
     let whole : IsWritten here first bytes owned = subst (λ k. AreWritten i.next.items first (chain_pages k) bytes owned) (sym size) step in
     let same : owned ≡ owned_bytes s.clusters (new.reads s.dev) =
     ap (λ (x : Store). owned_bytes x.clusters (new.reads x.dev)) c.self.view_is ∙ (λ x. owned_bytes (added.pages.clusters x) (new.reads (added.pages.dev x))) in
@@ -62,15 +100,10 @@ returns-clause-others g c = λ told other some.
     let here : Store = record { dev = i.dev; clusters = i.map; free = i.free; next = i.next.items; sizes = i.sizes.items } in
     let s = c.args.self.now in
     let first = c.take_chain-first.result in
-    let n = chain_pages (length c.args.bytes.now) in
     let old = g.H.Host.view c.args.host.now in
     let new = g.H.Host.view c.write_chain.new.host in
     let added = c.take_chain-first.ensures in
-    let step = subst (λ (l : List ℕ). OnBytes i.map (IsSameButPages l first n) (old.reads i.dev) (new.reads i.dev)) c.as_slice-next.ensures.value
-    (c.in_ok-write_chain.ensures.outside told) in
-    let closed = subst (λ (x : Store). OnBytes x.clusters (IsSameButPages x.next first n) (old.reads x.dev) (new.reads x.dev)) c.self.view_is step in
-    let frame = subst (λ d. IsSameButFree s (old.reads d) (new.reads d)) added.pages.dev
-    (write_frame s c.take_chain-first.new.self first (length c.args.bytes.now) added (old.reads c.take_chain-first.new.self.dev) (new.reads c.take_chain-first.new.self.dev) closed) in
+    let frame = returns-clause-outside g c told in
     ap (λ (x : Store). chain_bytes x other (owned_bytes s.clusters (new.reads s.dev))) c.self.view_is
     ∙ places_kept s c.take_chain-first.new.self first (length c.args.bytes.now) other (owned_bytes s.clusters (new.reads s.dev)) added some
     ∙ bytes_kept s other (owned_bytes s.clusters (old.reads s.dev)) (owned_bytes s.clusters (new.reads s.dev)) c.free_count-free.ensures.store frame.bytes
