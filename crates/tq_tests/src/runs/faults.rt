@@ -21,7 +21,7 @@ fn is_refused(rt: &impl Abort, alloc: Global, image: &[u8]) -> Result<bool, Allo
 }
 
 // These bytes with others from an address on.
-fn changed(
+pub(super) fn changed(
     alloc: Global,
     whole: &[u8],
     address: usize,
@@ -75,7 +75,7 @@ fn address_of(row: &[u8]) -> usize {
 
 // Each row of a text that is no comment: an address, the bytes from there on, and whether a device
 // with them still has a reading (+) or is damaged (-).
-fn check_bytes(
+pub(super) fn check_bytes(
     rt: &impl Abort,
     alloc: Global,
     whole: &[u8],
@@ -95,7 +95,7 @@ fn check_bytes(
 }
 
 // What lies at some addresses.
-fn check_written(rt: &impl Abort, image: &[u8], rows: &[(usize, &[u8])]) {
+pub(super) fn check_written(rt: &impl Abort, image: &[u8], rows: &[(usize, &[u8])]) {
     for (address, bytes) in rows {
         let behind = image.get(*address..).unwrap_or(b"");
         assert!(rt; behind.starts_with(*bytes), "at {address}");

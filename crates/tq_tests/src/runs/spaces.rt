@@ -1,5 +1,6 @@
 //! Several spaces on one device: where they lie, what they keep apart, and what a removal leaves.
 
+use super::faults::{changed, check_bytes, check_written};
 use super::serial::Serial;
 use super::{BLANK, MADE, Sheet, made, outside, run_words};
 use std::alloc::{AllocError, Global};
@@ -199,6 +200,91 @@ fn a_device_is_made_blank(rt: HostRuntime) -> Result<(), Fail> {
     let image = Sheet::of(alloc, BLANK, &rows)?.check(&rt, alloc, b"")?;
     assert!(rt; image.is_empty());
     Sheet::new(alloc, BLANK)?.check(&rt, alloc, &image)?;
+    Ok(())
+}
+
+// Three spaces, the second of them in the clusters that a removed one had and in two more.
+fn with_a_new_one(rt: &impl Abort, alloc: Global) -> Result<Vec<u8>, AllocError> {
+    let rows = [
+        (REMOVAL, "OK"),
+        (CREATION, "OK number=32 overhead=45 pages=160"),
+    ];
+    let ready = "READY site=1 epoch=3 spaces=3 indoubt=0";
+    Sheet::of(alloc, ready, &rows)?.check(rt, alloc, &with_three(rt, alloc)?)
+}
+
+// Bytes of the table of these spaces, A, D and C: what goes together of two of them.
+const TABLE: &[u8] = b"# two of one name; the name of none
+042178 - 41
+042178 - 43
+042178 + 42
+# two of one ordinal; one that none has, one that is not given yet
+042308 - 00000001
+042308 - 00000003
+042308 + 00000002
+042308 - 00000005
+# pages for which its clusters are too few, or too many
+042312 - 000000a1
+042312 + 00000081
+042312 - 00000080
+# an entry less; an extent less, one more
+042176 - 00
+042316 - 00000001
+042316 - 00000003
+# clusters of the header, of A, of C twice, of C and of none, past the device's end, past its clusters
+044580 - 0003
+044580 - 0005
+044580 - 0007
+044580 - 0008
+044584 - 000a
+044584 - 000c
+044584 - 003f
+# an extent of no cluster, of one that C has
+044582 - 0000
+044582 - 0004
+";
+
+#[test]
+fn spaces_that_do_not_go_together_are_damage(rt: HostRuntime) -> Result<(), Fail> {
+    let alloc = rt.alloc();
+    let image = with_a_new_one(&rt, alloc)?;
+    let written: [(usize, &[u8]); 4] = [
+        (42_016, b"\x01\x01A"),
+        (42_176, b"\x01\x01D"),
+        (42_308, b"\0\0\0\x04\0\0\0\xa0\0\0\0\x02"),
+        (
+            44_576,
+            b"\0\x04\0\x02\0\x06\0\x03\0\x0b\0\x02\0\x09\0\x02\0\0",
+        ),
+    ];
+    check_written(&rt, &image, &written);
+    check_bytes(&rt, alloc, &image, TABLE)?;
+    Ok(())
+}
+
+// Extents that could be one, and extents in no order, with the space's bytes where these lie.
+#[test]
+fn extents_of_any_form_are_read(rt: HostRuntime) -> Result<(), Fail> {
+    let alloc = rt.alloc();
+    let image = with_a_new_one(&rt, alloc)?;
+    let split = changed(alloc, &image, 42_476, b"\0\0\0\x02")?;
+    let split = changed(alloc, &split, 44_588, b"\0\x09\0\x01\0\x0a\0\x01")?;
+    let listing = "OK clusters=64 free=51 spaces=3
+  A number=8 pages=64 extents=4+2
+  D number=32 pages=160 extents=6+3,11+2
+  C number=24 pages=64 extents=9+1,10+1";
+    assert!(rt; lists(alloc, &split, listing, KEPT)?);
+    let mut turned = changed(alloc, &image, 44_580, b"\0\x0b\0\x02\0\x06\0\x03")?;
+    for (from, to) in [(6usize, 11usize), (7, 12), (8, 6), (11, 7), (12, 8)] {
+        let at = from.wrapping_mul(32_768);
+        let cluster = image.get(at..at.wrapping_add(32_768)).unwrap_or(b"");
+        turned = changed(alloc, &turned, to.wrapping_mul(32_768), cluster)?;
+    }
+    let listing = "OK clusters=64 free=51 spaces=3
+  A number=8 pages=64 extents=4+2
+  D number=32 pages=160 extents=11+2,6+3
+  C number=24 pages=64 extents=9+2";
+    assert!(rt; lists(alloc, &turned, listing, KEPT)?);
     Ok(())
 }
 
