@@ -119,7 +119,7 @@ further_long : (end size : ℕ) (old new : List ℕ) → end ≤ size → IsLong
 further_long end size old new le step = let most = step.most in record { longer = step.longer; most = omega (arith, most, le); bytes = step.bytes }
 
 -- what is longer alone is the same in the table too
-longer_alone : (dev end size : ℕ) (old new : List ℕ) → end ≤ size → IsLonger end old new → IsLongerButTable dev size old new
+pub longer_alone : (dev end size : ℕ) (old new : List ℕ) → end ≤ size → IsLonger end old new → IsLongerButTable dev size old new
 longer_alone dev end size old new le step = record {
   between = new;
   longer = further_long end size old new le step;
@@ -129,15 +129,17 @@ longer_alone dev end size old new le step = record {
 pub longer_then : (dev end size : ℕ) (old mid new : List ℕ) → end ≤ size → IsLonger end old mid → IsSameButTable dev mid new → IsLongerButTable dev size old new
 longer_then dev end size old mid new le step same = record { between = mid; longer = further_long end size old mid le step; outside = same }
 
+-- nothing is changed
+pub longer_none : (dev size : ℕ) (c : List ℕ) → IsLongerButTable dev size c c
+longer_none dev size c = longer_alone dev 0 size c c (omega arith) (record { longer = omega arith; most = omega arith; bytes = λ i lt. refl })
+
 -- no call at all
 pub stop_none : (t : DeviceTable) (next : TablePart) (v : View) → AreTableOf t v
     → Within (dev_of t) (IsLongerButTable (dev_of t) (cluster_bytes * t.clusters))
     (IsTableOrLonger (dev_of t) (place_of t) (part_of t) next (v.reads (dev_of t))) v v
 stop_none t next v are = record {
   later = omega arith;
-  own = λ c may.
-      let same : IsLonger 0 c c = record { longer = omega arith; most = omega arith; bytes = λ i lt. refl } in
-      record { image = c; was = may; step = longer_alone (dev_of t) 0 (cluster_bytes * t.clusters) c c (omega arith) same; now = inl (are c may).has };
+  own = λ c may. record { image = c; was = may; step = longer_none (dev_of t) (cluster_bytes * t.clusters) c; now = inl (are c may).has };
   others = λ d c ne may. may;
   others_read = λ d ne. refl;
   streams = refl;

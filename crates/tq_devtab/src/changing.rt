@@ -19,7 +19,7 @@ use tq_host::{Device, Host};
 
 impl DeviceTable {
     /// Writes the table as it is in memory over the one of the device, which it is a change of. Takes
-    /// no memory.
+    /// no memory. What is read outside the table stays, also where the call fails.
     pub(crate) fn store<H: Host>(&mut self, host: &mut H) -> Result<(), Device>
         requires dev { dev_of self.old < 8 }
         requires size { H.tells.reads → header_bytes ≤ length ((H.view host.old).reads (dev_of self.old)) }
@@ -32,7 +32,8 @@ impl DeviceTable {
             → IsTableOf self.new ((H.view host.new).reads (dev_of self.old))) }
         ensures dev { dev_of self.new ≡ dev_of self.old }
         ensures place { place_of self.new ≡ place_of self.old }
-        ensures outside { OnOk result (H.tells.reads → IsSameButTable (dev_of self.old) ((H.view host.old).reads (dev_of self.old)) ((H.view host.new).reads (dev_of self.old))) }
+        ensures outside { H.tells.reads
+            → IsSameButTable (dev_of self.old) ((H.view host.old).reads (dev_of self.old)) ((H.view host.new).reads (dev_of self.old)) }
         ensures settled { OnOk result (IsSettled (dev_of self.old) (H.view host.new)) }
         ensures rest { KeepsRest (dev_of self.old) (H.view host.old) (H.view host.new) }
         ensures cause { HasCause (H.view host.old).faults (H.view host.new).faults result }
@@ -43,8 +44,8 @@ impl DeviceTable {
 
     /// Enters a space that was reserved, whose pages are on the device and durable, and gives its
     /// ordinal. The device reaches to the end of its clusters. In each picture the table is the old
-    /// one, or the new one and all else what was read at the start. Takes no memory. After `Device`
-    /// the table is to be loaded again.
+    /// one, or the new one and all else what was read at the start. What is read outside the table
+    /// stays in any case. Takes no memory. After `Device` the table is to be loaded again.
     pub fn enter<H: Host>(&mut self, host: &mut H, reserved: Reserved) -> Result<u32, Device>
         requires dev { dev_of self.old < 8 }
         requires reserved { IsReserved (part_of self.old) (space_of reserved) }
@@ -61,7 +62,8 @@ impl DeviceTable {
             → AreTableOf self.new (H.view host.new)) }
         ensures dev { dev_of self.new ≡ dev_of self.old }
         ensures place { place_of self.new ≡ place_of self.old }
-        ensures outside { OnOk result (H.tells.reads → IsSameButTable (dev_of self.old) ((H.view host.old).reads (dev_of self.old)) ((H.view host.new).reads (dev_of self.old))) }
+        ensures outside { H.tells.reads
+            → IsSameButTable (dev_of self.old) ((H.view host.old).reads (dev_of self.old)) ((H.view host.new).reads (dev_of self.old)) }
         ensures settled { OnOk result (IsSettled (dev_of self.old) (H.view host.new)) }
         ensures rest { KeepsRest (dev_of self.old) (H.view host.old) (H.view host.new) }
         ensures cause { HasCause (H.view host.old).faults (H.view host.new).faults result }
@@ -77,7 +79,8 @@ impl DeviceTable {
 
     /// Drops the space of that ordinal: its entry is not used from then on, and its clusters are
     /// free. In each picture the table is the old one, or the new one and all else what was read at
-    /// the start. Takes no memory. After `Device` the table is to be loaded again.
+    /// the start. What is read outside the table stays in any case. Takes no memory. After `Device`
+    /// the table is to be loaded again.
     pub fn drop_space<H: Host>(&mut self, host: &mut H, ordinal: u32) -> Result<(), Device>
         requires dev { dev_of self.old < 8 }
         requires there { is_some (entry_of ordinal (part_of self.old).entries) ≡ true }
@@ -91,7 +94,8 @@ impl DeviceTable {
         ensures images { OnOk result (AreTableOf self.old (H.view host.old) → AreTableOf self.new (H.view host.new)) }
         ensures dev { dev_of self.new ≡ dev_of self.old }
         ensures place { place_of self.new ≡ place_of self.old }
-        ensures outside { OnOk result (H.tells.reads → IsSameButTable (dev_of self.old) ((H.view host.old).reads (dev_of self.old)) ((H.view host.new).reads (dev_of self.old))) }
+        ensures outside { H.tells.reads
+            → IsSameButTable (dev_of self.old) ((H.view host.old).reads (dev_of self.old)) ((H.view host.new).reads (dev_of self.old)) }
         ensures settled { OnOk result (IsSettled (dev_of self.old) (H.view host.new)) }
         ensures rest { KeepsRest (dev_of self.old) (H.view host.old) (H.view host.new) }
         ensures cause { HasCause (H.view host.old).faults (H.view host.new).faults result }

@@ -134,7 +134,8 @@ impl DeviceTable {
     /// most 262,016 then. The further clusters that they need are the lowest free ones. The device
     /// is made longer where it does not reach to their end, before the table is written. In each
     /// picture the table is the old one, or the new one and all else what was read at the start, with
-    /// more bytes behind it or none.
+    /// more bytes behind it or none. What is read outside the table stays in any case, with more bytes
+    /// behind it or none.
     ///
     /// # Errors
     /// `Lack` exactly where fewer clusters are free; else `NoMemory` or `Device`. After `Lack` and
@@ -160,8 +161,8 @@ impl DeviceTable {
         ensures images { OnOk result (AreTableOf self.old (H.view host.old) → AreTableOf self.new (H.view host.new)) }
         ensures dev { dev_of self.new ≡ dev_of self.old }
         ensures place { place_of self.new ≡ place_of self.old }
-        ensures outside { OnOk result (H.tells.reads → IsLongerButTable (dev_of self.old) (cluster_bytes * (part_of self.old).clusters)
-            ((H.view host.old).reads (dev_of self.old)) ((H.view host.new).reads (dev_of self.old))) }
+        ensures outside { H.tells.reads → IsLongerButTable (dev_of self.old) (cluster_bytes * (part_of self.old).clusters)
+            ((H.view host.old).reads (dev_of self.old)) ((H.view host.new).reads (dev_of self.old)) }
         ensures settled { OnOk result (IsSettled (dev_of self.old) (H.view host.new)) }
         ensures rest { KeepsRest (dev_of self.old) (H.view host.old) (H.view host.new) }
         ensures enough { OnOk result ((n : NamedSpace) → entry_of ordinal (part_of self.old).entries ≡ Some n → further_for pages n ≤ free_of (part_of self.old)) }

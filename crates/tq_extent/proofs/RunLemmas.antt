@@ -1,5 +1,5 @@
 -- Bytes of an owner that lie behind one another on the device, read or written by one call.
-use Rattle.std.proofs.Common.{◌≡◌, ◌≢◌, ◌⊎◌, ◌<◌, ◌≤◌, inl, inr, ⊎_elim, ℕ, ◌+◌, ◌-◌, ◌*◌, ◌/◌, true, List, ◌++◌, take, drop, length, get_or, Result, sym, ap, subst, ◌∙◌, arith, ltb-true}
+use Rattle.std.proofs.Common.{◌≡◌, ◌≢◌, ◌⊎◌, ◌<◌, ◌≤◌, inl, inr, ⊎_elim, ℕ, ◌+◌, ◌-◌, ◌*◌, ◌/◌, true, List, ◌++◌, take, drop, length, get_or, Result, sym, ap, ◌∙◌, arith, ltb-true}
 use Rattle.std.specs.Prelude.{nat_lt}
 use Rattle.std.proofs.lemmas.Bool.{cases_lt}
 use Rattle.std.proofs.lemmas.List.{drop-drop, get_or_past}
@@ -135,13 +135,25 @@ module _ (clusters : List ℕ) (at n : ℕ) (within : at + n ≤ byte_count clus
         };
       }
 
+  -- so they do in a write of these that may be cut short
+  pub row_torn : (address size : ℕ) (old new : List ℕ) → 1 ≤ n → are_distinct clusters ≡ true → address ≡ byte_address clusters at → size ≡ n
+      → reaches clusters old ≡ true → IsTorn address size old new → OnBytes clusters (IsSameBut at n) old new
+  row_torn address size old new some distinct is_address is_size long torn =
+      row_changed old new distinct long (torn_within (byte_address clusters at) n address size old new (omega arith) (omega arith)
+      (row_reached old some long) torn)
+
   -- the same of a wider range
-  pub row_within : (wide m : ℕ) (old new : List ℕ) → wide ≤ at → at + n ≤ wide + m → are_distinct clusters ≡ true → reaches clusters old ≡ true
-      → IsSameBut (byte_address clusters at) n old new
+  row_within : (wide m : ℕ) (old new : List ℕ) → wide ≤ at → at + n ≤ wide + m → OnBytes clusters (IsSameBut at n) old new
       → OnBytes clusters (IsSameBut wide m) old new
-  row_within wide m old new from to distinct long same =
+  row_within wide m old new from to changed =
       on_bytes_as clusters (IsSameBut at n) (IsSameBut wide m) old new
-      (same_but_wider at n wide m (owned_bytes clusters old) (owned_bytes clusters new) from to) (row_changed old new distinct long same)
+      (same_but_wider at n wide m (owned_bytes clusters old) (owned_bytes clusters new) from to) changed
+
+  -- and behind other changes of it
+  pub row_behind : (wide m : ℕ) (start old new : List ℕ) → wide ≤ at → at + n ≤ wide + m → OnBytes clusters (IsSameBut wide m) start old
+      → OnBytes clusters (IsSameBut at n) old new → OnBytes clusters (IsSameBut wide m) start new
+  row_behind wide m start old new from to so_far changed =
+      (on_bytes_steps clusters (IsSameBut wide m) (same_but_steps wide m)).both start old new so_far (row_within wide m old new from to changed)
 
   -- the pictures of a write, where each image from before it has these clusters
   pub row_stop : (dev wide m address size : ℕ) (start mid new : View) {T : Type 0} (r : Result T Failed) → 1 ≤ n → wide ≤ at → at + n ≤ wide + m
@@ -153,10 +165,7 @@ module _ (clusters : List ℕ) (at n : ℕ) (within : at + n ≤ byte_count clus
       changes dev (OnBytes clusters (IsSameBut wide m)) (on_bytes_steps clusters (IsSameBut wide m) (same_but_steps wide m)) (HasReach clusters)
       (HasReach clusters) start mid new r (IsTorn address size) so_far call change
       (λ b c long torn.
-      let here : IsTorn (byte_address clusters at) n b c = subst (λ k. IsTorn (byte_address clusters at) k b c) is_size
-      (subst (λ k. IsTorn k size b c) is_address torn) in
-      let step = row_within wide m b c from to distinct long
-      (torn_within (byte_address clusters at) n (byte_address clusters at) n b c (omega arith) (omega arith) (row_reached b some long) here) in
+      let step = row_within wide m b c from to (row_torn address size b c some distinct is_address is_size long torn) in
       (step, reaches_same clusters b c step.size ∙ long))
       (λ c long. long)
 
@@ -181,11 +190,12 @@ first_more at done n bytes run image before size part stands i lt = elim (cases_
 -- all of them are written
 pub all_written : (clusters : List ℕ) (at done : ℕ) (bytes old new : List ℕ) → reaches clusters old ≡ true → at + length bytes ≤ byte_count clusters
     → done ≡ length bytes
-    → HasFirstAt at done bytes (owned_bytes clusters new) → OnBytes clusters (IsSameBut at done) old new → OnBytes clusters (IsWritten at bytes) old new
+    → HasFirstAt at done bytes (owned_bytes clusters new) → OnBytes clusters (IsSameBut at (length bytes)) old new
+    → OnBytes clusters (IsWritten at bytes) old new
 all_written clusters at done bytes old new long within all stands beside =
-    on_bytes_as clusters (IsSameBut at done) (IsWritten at bytes) old new (λ same. record {
+    on_bytes_as clusters (IsSameBut at (length bytes)) (IsWritten at bytes) old new (λ same. record {
       stands = λ i lt. stands i (omega arith);
-      outside = λ i out. same.outside i (⊎_elim (λ before. inl before) (λ behind. inr (omega arith)) out);
+      outside = same.outside;
       size = omega (arith, same.size, length-owned clusters old long);
     }) beside
 

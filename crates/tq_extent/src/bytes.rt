@@ -69,7 +69,7 @@ impl PageMap {
 
     /// Writes these bytes over those of the owner from this place on. The device reaches to the end
     /// of the owner's clusters. Clusters that lie behind one another are written at once. Nothing is
-    /// durable before a sync.
+    /// durable before a sync. All else that is read stays, also where the call fails.
     pub fn write_at<H: Host>(
         &self,
         host: &mut H,
@@ -81,6 +81,7 @@ impl PageMap {
         requires within { at + length from.now ≤ byte_count self.now }
         requires reach { H.tells.reads → reaches self.now ((H.view host.old).reads dev) ≡ true }
         ensures written { OnOk result (H.tells.reads → OnBytes self.now (IsWritten at from.now) ((H.view host.old).reads dev) ((H.view host.new).reads dev)) }
+        ensures outside { H.tells.reads → OnBytes self.now (IsSameBut at (length from.now)) ((H.view host.old).reads dev) ((H.view host.new).reads dev) }
 
         // In each picture the bytes outside the range are those of one image from before, and so is all else of the device.
         ensures stop { AllReach dev self.now (H.view host.old)

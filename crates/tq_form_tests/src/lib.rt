@@ -12,3 +12,5 @@ mod journals;
 mod logs;
 #[cfg(test)]
 mod records;
+#[cfg(test)]
+mod spaces;

@@ -16,7 +16,7 @@ use Rattle.tq_host.specs.View.{Told, View, IsLawful, IsSettled}
 use Rattle.tq_host.specs.Within.{Within}
 use Rattle.tq_host.proofs.Steps.{IsSteps}
 use Rattle.tq_extent.specs.Bytes.{reaches, OnBytes, IsAny, AllReach}
-use Rattle.tq_extent.proofs.BytesLemmas.{length-owned, on_bytes_as}
+use Rattle.tq_extent.proofs.BytesLemmas.{on_bytes_as, on_bytes_steps}
 use Rattle.tq_gate.specs.declared.log.GateLog.{GateLog}
 use Rattle.tq_gate.specs.Log.{IsOpen, IsFilledIn, IsFilled, AreFilledOver, IsSameBeside, IsSameButAreas, IsChoosing, IsLog, HaveLog, HasReplaced, IsOldOrReplaced, replaced}
 use Rattle.tq_gate.proofs.PictureLemmas.{Keeps, keeps_start, keeps_write, decides, both_pieces, reach_after}
@@ -189,16 +189,35 @@ module _ (log : GateLog) where
     both = λ a b c first second. record { outside = λ i out unselected. second.outside i out unselected ∙ first.outside i out unselected; size = second.size ∙ first.size };
   }
 
-  -- a whole write to bytes of the owner
-  pub written_beside : (w : ℕ) (bytes b c : List ℕ) → w + length bytes ≤ layout_end log.layout
-      → ((x y : List ℕ) → IsSameBut w (length bytes) x y → IsSameBeside log.layout x y) → reaches (clusters_of log.layout) b ≡ true
-      → OnBytes (clusters_of log.layout) (IsWritten w bytes) b c → IsSameButAreas log b c
-  written_beside w bytes b c within only reach step =
-      let long = length-owned (clusters_of log.layout) b reach in
-      on_bytes_as (clusters_of log.layout) (IsWritten w bytes) (IsSameBeside log.layout) b c
-      (λ written. only (bytes_in log.layout b) (bytes_in log.layout c) (same_but_written w bytes (bytes_in log.layout b) (bytes_in log.layout c) (omega (arith, log.placed.laid_out.end)) written)) step
+  -- the write of the selector
+  pub selector_beside : (two : has_two_areas log.layout.areas ≡ true) (selector : ℕ) → log.layout.areas ≡ Two selector → (b c : List ℕ)
+      → OnBytes (clusters_of log.layout) (IsSameBut selector 1) b c → IsSameButAreas log b c
+  selector_beside two selector at b c step =
+      on_bytes_as (clusters_of log.layout) (IsSameBut selector 1) (IsSameBeside log.layout) b c
+      (only_selector log.layout log.area log.placed two selector at (bytes_in log.layout b) (bytes_in log.layout c)) step
 
   module _ (two : has_two_areas log.layout.areas ≡ true) where
+    -- a write to the other area
+    other_beside : (w n : ℕ) (b c : List ℕ) → other_area log.layout log.area ≤ w → w + n ≤ other_area log.layout log.area + area_length log.layout
+        → OnBytes (clusters_of log.layout) (IsSameBut w n) b c → IsSameButAreas log b c
+    other_beside w n b c from to step =
+        on_bytes_as (clusters_of log.layout) (IsSameBut w n) (IsSameBeside log.layout) b c
+        (only_other log.layout log.area log.placed two w n (bytes_in log.layout b) (bytes_in log.layout c) from to) step
+
+    -- that of a base
+    pub base_beside : (base : List ℕ) (area : ℕ) (b c : List ℕ) → length base ≡ base_length log.layout → area ≡ other_area log.layout log.area
+        → OnBytes (clusters_of log.layout) (IsSameBut area (length base)) b c → IsSameButAreas log b c
+    base_beside base area b c size place step = other_beside area (length base) b c (omega arith) (omega arith) step
+
+    -- and of the gate behind it
+    pub gate_beside : (base : List ℕ) (area width n : ℕ) (b c d : List ℕ) → length base ≡ base_length log.layout → area ≡ other_area log.layout log.area
+        → width ≡ base_length log.layout → n ≡ min log.layout.log_pages 1 → OnBytes (clusters_of log.layout) (IsSameBut area (length base)) b c
+        → OnBytes (clusters_of log.layout) (IsSameBut (area + width) (length {A = ℕ} (take n (0 ∷ [])))) c d → IsSameButAreas log b d
+    gate_beside base area width n b c d size place wide gates first second =
+        let within = gate_within log.layout log.area log.placed two n gates in
+        (on_bytes_steps (clusters_of log.layout) (IsSameBeside log.layout) beside_steps).both b c d (base_beside base area b c size place first)
+        (other_beside (area + width) (length {A = ℕ} (take n (0 ∷ []))) c d (omega arith) (omega (arith, within)) second)
+
     -- a write to the other area, in each picture
     pub keeps_beside : (old mid new : View) (w n : ℕ) → other_area log.layout log.area ≤ w → w + n ≤ other_area log.layout log.area + area_length log.layout
         → Keeps log (IsSameBeside log.layout) beside_steps old mid

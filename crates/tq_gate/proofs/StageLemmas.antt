@@ -16,7 +16,7 @@ use Rattle.tq_host.specs.View.{Told, View, IsLawful, IsSettled}
 use Rattle.tq_host.specs.Within.{Within}
 use Rattle.tq_host.proofs.Steps.{IsSteps}
 use Rattle.tq_extent.specs.Bytes.{reaches, OnBytes, IsAny, AllReach}
-use Rattle.tq_extent.proofs.BytesLemmas.{length-owned, on_bytes_as}
+use Rattle.tq_extent.proofs.BytesLemmas.{on_bytes_as}
 use Rattle.tq_gate.specs.declared.log.GateLog.{GateLog}
 use Rattle.tq_gate.specs.Log.{IsOpen, added, IsSameButIn, IsSameButLog, IsStagedIn, IsLog, HaveLog, IsStaged, AreStagedOver, IsOpening, HasAdded, IsOldOrNew}
 use Rattle.tq_gate.proofs.PictureLemmas.{Keeps, keeps_write, decides, both_pieces, reach_after}
@@ -149,16 +149,12 @@ module _ (log : GateLog) where
   pub log_steps : IsSteps (IsSameButIn log.layout log.area)
   log_steps = same_but_steps (log_place log.layout log.area 0) (log_length log.layout)
 
-  -- a whole write within the log
-  pub written_in_log : (w : ℕ) (bytes b c : List ℕ) → log_place log.layout log.area 0 ≤ w
-      → w + length bytes ≤ log_place log.layout log.area (log_length log.layout) → reaches (clusters_of log.layout) b ≡ true
-      → OnBytes (clusters_of log.layout) (IsWritten w bytes) b c → IsSameButLog log b c
-  written_in_log w bytes b c from to reach step =
-      let within = log_within log.layout log.area log.placed in
-      let long = length-owned (clusters_of log.layout) b reach in
-      on_bytes_as (clusters_of log.layout) (IsWritten w bytes) (IsSameButIn log.layout log.area) b c
-      (λ written. in_log log.layout log.area log.placed w (length bytes) (bytes_in log.layout b) (bytes_in log.layout c) from to
-      (same_but_written w bytes (bytes_in log.layout b) (bytes_in log.layout c) (omega (arith, log.placed.laid_out.end)) written)) step
+  -- a write within the log
+  pub write_in_log : (w n : ℕ) (b c : List ℕ) → log_place log.layout log.area 0 ≤ w → w + n ≤ log_place log.layout log.area (log_length log.layout)
+      → OnBytes (clusters_of log.layout) (IsSameBut w n) b c → IsSameButLog log b c
+  write_in_log w n b c from to step =
+      on_bytes_as (clusters_of log.layout) (IsSameBut w n) (IsSameButIn log.layout log.area) b c
+      (in_log log.layout log.area log.placed w n (bytes_in log.layout b) (bytes_in log.layout c) from to) step
 
   -- a write behind the closed gate, in each picture
   pub keeps_behind : (old mid new : View) (w n : ℕ) → log_place log.layout log.area (log.end + 1) ≤ w

@@ -74,13 +74,13 @@ impl GateLog {
         ensures stop { HaveLog self.old (H.view host.old)
             → Within (layout_of self.old).dev (IsSameButLog self.old) (IsOldOrNew self.old (H.view host.old) (payload_in frame.old)) (H.view host.old) (H.view host.new) }
 
-        // What is read, and each image, is the new content.
+        // At Ok what is read, and each image, is the new content. Outside the log what is read stays in any case.
         ensures added { OnOk result (H.tells.reads → (k : Content) → IsLog self.old k ((H.view host.old).reads (layout_of self.old).dev)
             → IsLog self.new (added k (payload_in frame.old)) ((H.view host.new).reads (layout_of self.old).dev)) }
         ensures images { OnOk result ((k : Content) → AreLog self.old k (H.view host.old)
             → AreLog self.new (added k (payload_in frame.old)) (H.view host.new)) }
-        ensures outside { OnOk result (H.tells.reads
-            → IsSameButLog self.old ((H.view host.old).reads (layout_of self.old).dev) ((H.view host.new).reads (layout_of self.old).dev)) }
+        ensures outside { H.tells.reads
+            → IsSameButLog self.old ((H.view host.old).reads (layout_of self.old).dev) ((H.view host.new).reads (layout_of self.old).dev) }
         ensures settled { OnOk result (IsSettled (layout_of self.old).dev (H.view host.new)) }
 
         ensures layout { layout_of self.new ≡ layout_of self.old }
@@ -109,12 +109,13 @@ impl GateLog {
         ensures stop { HaveLog self.old (H.view host.old)
             → Within (layout_of self.old).dev (IsSameButAreas self.old) (IsOldOrReplaced self.old (H.view host.old) base.now) (H.view host.old) (H.view host.new) }
 
-        // What is read, and each image, is the new content.
+        // At Ok what is read, and each image, is the new content. Outside the areas and the selector what is read stays in
+        // any case.
         ensures replaced { OnOk result (H.tells.reads → (k : Content) → IsLog self.old k ((H.view host.old).reads (layout_of self.old).dev)
             → IsLog self.new (replaced base.now) ((H.view host.new).reads (layout_of self.old).dev)) }
         ensures images { OnOk result ((k : Content) → AreLog self.old k (H.view host.old) → AreLog self.new (replaced base.now) (H.view host.new)) }
-        ensures outside { OnOk result (H.tells.reads
-            → IsSameButAreas self.old ((H.view host.old).reads (layout_of self.old).dev) ((H.view host.new).reads (layout_of self.old).dev)) }
+        ensures outside { H.tells.reads
+            → IsSameButAreas self.old ((H.view host.old).reads (layout_of self.old).dev) ((H.view host.new).reads (layout_of self.old).dev) }
         ensures settled { OnOk result (IsSettled (layout_of self.old).dev (H.view host.new)) }
 
         ensures layout { layout_of self.new ≡ layout_of self.old }

@@ -29,8 +29,8 @@ pub(crate) fn stage<H: Host>(host: &mut H, log: &GateLog, frame: &mut [u8]) -> R
         → Within log.now.layout.dev (IsSameButLog log.now) (IsKeptLog log.now (IsSameButLog log.now) (H.view host.old)) (H.view host.old) (H.view host.new) }
     ensures staged { OnOk result (H.tells.reads → (k : Content) → IsLog log.now k ((H.view host.old).reads log.now.layout.dev)
         → IsStaged log.now k (payload_in frame.old) ((H.view host.new).reads log.now.layout.dev)) }
-    ensures outside { OnOk result (H.tells.reads
-        → IsSameButLog log.now ((H.view host.old).reads log.now.layout.dev) ((H.view host.new).reads log.now.layout.dev)) }
+    ensures outside { H.tells.reads
+        → IsSameButLog log.now ((H.view host.old).reads log.now.layout.dev) ((H.view host.new).reads log.now.layout.dev) }
     ensures settled { OnOk result (IsSettled log.now.layout.dev (H.view host.new)) }
     ensures rest { KeepsRest log.now.layout.dev (H.view host.old) (H.view host.new) }
     ensures cause { HasCause (H.view host.old).faults (H.view host.new).faults result }
@@ -53,8 +53,8 @@ pub(crate) fn open_gate<H: Host>(host: &mut H, log: &GateLog) -> Result<(), Fail
         → Within log.now.layout.dev (IsSameButLog log.now) (IsOpening log.now k payload read) (H.view host.old) (H.view host.new) }
     ensures opened { OnOk result (H.tells.reads → (k : Content) → (payload : List ℕ) → IsStaged log.now k payload ((H.view host.old).reads log.now.layout.dev)
         → IsOpen log.now.layout log.now.area (log.now.end + (5 + length payload)) (added k payload) (layouts.bytes_in log.now.layout ((H.view host.new).reads log.now.layout.dev))) }
-    ensures outside { OnOk result (H.tells.reads
-        → IsSameButLog log.now ((H.view host.old).reads log.now.layout.dev) ((H.view host.new).reads log.now.layout.dev)) }
+    ensures outside { H.tells.reads
+        → IsSameButLog log.now ((H.view host.old).reads log.now.layout.dev) ((H.view host.new).reads log.now.layout.dev) }
     ensures settled { OnOk result (IsSettled log.now.layout.dev (H.view host.new)) }
     ensures rest { KeepsRest log.now.layout.dev (H.view host.old) (H.view host.new) }
     ensures cause { HasCause (H.view host.old).faults (H.view host.new).faults result }
@@ -78,8 +78,8 @@ pub(crate) fn fill_other<H: Host>(host: &mut H, log: &GateLog, base: &[u8]) -> R
         → Within log.now.layout.dev (IsSameButAreas log.now) (IsKeptLog log.now (IsSameButAreas log.now) (H.view host.old)) (H.view host.old) (H.view host.new) }
     ensures filled { OnOk result (H.tells.reads → (k : Content) → IsLog log.now k ((H.view host.old).reads log.now.layout.dev)
         → IsFilled log.now k base.now ((H.view host.new).reads log.now.layout.dev)) }
-    ensures outside { OnOk result (H.tells.reads
-        → IsSameButAreas log.now ((H.view host.old).reads log.now.layout.dev) ((H.view host.new).reads log.now.layout.dev)) }
+    ensures outside { H.tells.reads
+        → IsSameButAreas log.now ((H.view host.old).reads log.now.layout.dev) ((H.view host.new).reads log.now.layout.dev) }
     ensures settled { OnOk result (IsSettled log.now.layout.dev (H.view host.new)) }
     ensures rest { KeepsRest log.now.layout.dev (H.view host.old) (H.view host.new) }
     ensures cause { HasCause (H.view host.old).faults (H.view host.new).faults result }
@@ -106,8 +106,8 @@ pub(crate) fn choose_other<H: Host>(host: &mut H, log: &GateLog) -> Result<(), F
         → Within log.now.layout.dev (IsSameButAreas log.now) (IsChoosing log.now k base read) (H.view host.old) (H.view host.new) }
     ensures chosen { OnOk result (H.tells.reads → (k : Content) → (base : List ℕ) → IsFilled log.now k base ((H.view host.old).reads log.now.layout.dev)
         → IsOpen log.now.layout (other_area log.now.layout log.now.area) 0 (replaced base) (layouts.bytes_in log.now.layout ((H.view host.new).reads log.now.layout.dev))) }
-    ensures outside { OnOk result (H.tells.reads
-        → IsSameButAreas log.now ((H.view host.old).reads log.now.layout.dev) ((H.view host.new).reads log.now.layout.dev)) }
+    ensures outside { H.tells.reads
+        → IsSameButAreas log.now ((H.view host.old).reads log.now.layout.dev) ((H.view host.new).reads log.now.layout.dev) }
     ensures settled { OnOk result (IsSettled log.now.layout.dev (H.view host.new)) }
     ensures rest { KeepsRest log.now.layout.dev (H.view host.old) (H.view host.new) }
     ensures cause { HasCause (H.view host.old).faults (H.view host.new).faults result }

@@ -1,7 +1,7 @@
 -- Bytes on a device.
 use Rattle.std.proofs.Common.{◌≡◌, ◌⊎◌, inl, inr, ⊎_elim, ◌<◌, ◌≤◌, ℕ, suc, ◌+◌, ◌-◌, List, [], ◌∷◌, ◌++◌, length, get_or, refl, sym, ◌∙◌, ap, subst, arith, length-append}
 use Rattle.std.proofs.lemmas.List.{get_or_append_left, get_or-append_right}
-use Rattle.tq_host.specs.Calls.{HasBytesAt, IsSameOutside, IsSameBut, IsTorn, IsWritten, IsPulled}
+use Rattle.tq_host.specs.Calls.{HasBytesAt, IsSameOutside, IsSameBut, IsTorn, IsWritten, IsResized, IsPulled}
 use Rattle.tq_host.proofs.Steps.{IsSteps}
 
 pub before_or_after : (i n : ℕ) → (i < n) ⊎ (n ≤ i)
@@ -44,6 +44,13 @@ torn_none at n c = record { outside = λ i out. refl; no_shorter = omega arith; 
 
 pub pulled_none : (n : ℕ) (c : List ℕ) → IsPulled n c c
 pulled_none n c = record { front = λ i lt. refl; no_shorter = omega arith; no_longer = omega arith }
+
+-- a whole write is one that a stop may cut short, and so is a change of the length
+pub torn_written : (at : ℕ) (bytes b c : List ℕ) → IsWritten at bytes b c → IsTorn at (length bytes) b c
+torn_written at bytes b c written = record { outside = written.outside; no_shorter = omega (arith, written.size); no_longer = omega (arith, written.size) }
+
+pub pulled_resized : (n : ℕ) (b c : List ℕ) → IsResized n b c → IsPulled n b c
+pulled_resized n b c sized = record { front = sized.front; no_shorter = omega (arith, sized.size); no_longer = omega (arith, sized.size) }
 
 -- Steps that leave all as it is, and two that are one
 

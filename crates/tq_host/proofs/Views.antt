@@ -17,7 +17,7 @@ use Rattle.tq_host.specs.Account.{Account, everything, view_of, IsRecorded}
 use Rattle.tq_host.specs.Outside.{account_of}
 use Rattle.tq_host.specs.Memory.{IsLoaded}
 use Rattle.tq_host.specs.Lawful.{counts_now, events_long}
-use Rattle.tq_host.proofs.Bytes.{torn_none, pulled_none}
+use Rattle.tq_host.proofs.Bytes.{torn_none, pulled_none, torn_written, pulled_resized}
 use Rattle.tq_host.proofs.Images.{is_overwritten, is_resized, write_image, resize_image, settled_image}
 use Rattle.tq_host.proofs.ReplayLemmas.{after, since, keeps_later, put_own, put_other}
 
@@ -144,12 +144,15 @@ module _ (event : Event) (a b : Account) (is : b.events ≡ a.events ++ event �
   other_disk : (d : ℕ) → d ≢ dev → (now b).disks d ≡ (now a).disks d
   other_disk d ne = ap (λ (s : State). s.disks d) (after a.events b.events event is) ∙ ap (λ (f : ℕ → Disk). f d) puts ∙ put_other dev disk (now a).disks d ne
 
-  change_once : (R : List ℕ → List ℕ → Type 0) → (step event (now a)).attached ≡ (now a).attached → ((c : List ℕ) → IsImage disk.pending c → (i : List ℕ) × IsImage ((now a).disks dev).pending i × R i c) → Changes dev R (view_of a) (view_of b)
-  change_once R attached image = record {
+  change_once : (R : List ℕ → List ℕ → Type 0) → (step event (now a)).attached ≡ (now a).attached
+      → ((c : List ℕ) → IsImage disk.pending c → (i : List ℕ) × IsImage ((now a).disks dev).pending i × R i c) → R ((now a).disks dev).seen disk.seen
+      → Changes dev R (view_of a) (view_of b)
+  change_once R attached image read = record {
     attached = ap (λ (s : State). s.attached) (after a.events b.events event is) ∙ attached;
     others_read = λ d ne. ap (λ (k : Disk). k.seen) (other_disk d ne);
     others = λ d c ne may. subst (λ (k : Disk). IsImage k.pending c) (other_disk d ne) may;
     own = λ c may. image c (subst (λ (k : Disk). IsImage k.pending c) own_disk may);
+    own_read = subst (λ (k : Disk). R ((now a).disks dev).seen k.seen) (sym own_disk) read;
   }
 
 change_none : (a b : Account) (dev : ℕ) (R : List ℕ → List ℕ → Type 0) → ((c : List ℕ) → R c c) → b.events ≡ a.events → Changes dev R (view_of a) (view_of b)
@@ -160,6 +163,7 @@ change_none a b dev R none is =
       attached = ap (λ (s : State). s.attached) e;
       others = λ d c ne may. subst (λ (s : State). IsImage (s.disks d).pending c) e may;
       own = λ c may. (c, subst (λ (s : State). IsImage (s.disks dev).pending c) e may, none c);
+      own_read = subst (λ (s : State). R ((now a).disks dev).seen (s.disks dev).seen) (sym e) (none ((now a).disks dev).seen);
     }
 
 -- a write
@@ -174,9 +178,11 @@ pub write_changes : (r : Result (Unit {0}) Failed) (dev at : ℕ) (bytes : List 
 write_changes (Ok x) dev at bytes a b recorded fine begin =
     let disk = (now a).disks dev in
     change_once (write dev at bytes) a b recorded.done.0 dev (written at bytes disk) refl (IsTorn at (length bytes)) refl (write_image at (length bytes) disk.pending disk.seen (fine dev) begin)
+    (torn_written at bytes disk.seen _ (is_overwritten at bytes disk.seen begin))
 write_changes (Err e) dev at bytes a b recorded fine begin =
     let disk = (now a).disks dev in
-    ⊎_elim (λ is. change_once (lost_write dev at bytes) a b is dev (tried_write at (length bytes) disk) refl (IsTorn at (length bytes)) refl (write_image at (length bytes) disk.pending disk.seen (fine dev) begin))
+    ⊎_elim (λ is. change_once (lost_write dev at bytes) a b is dev (tried_write at (length bytes) disk) refl (IsTorn at (length bytes)) refl
+    (write_image at (length bytes) disk.pending disk.seen (fine dev) begin) (torn_none at (length bytes) disk.seen))
     (λ is. change_none a b dev (IsTorn at (length bytes)) (torn_none at (length bytes)) is) recorded.failed.0
 
 pub write_done : (r : Result (Unit {0}) Failed) (dev at : ℕ) (bytes : List ℕ) (a b : Account) → IsRecorded Devices r (λ _. write dev at bytes) (lost_write dev at bytes) a b
@@ -197,9 +203,11 @@ pub resize_changes : (r : Result (Unit {0}) Failed) (dev n : ℕ) (a b : Account
 resize_changes (Ok x) dev n a b recorded fine =
     let disk = (now a).disks dev in
     change_once (resize dev n) a b recorded.done.0 dev (resized n disk) refl (IsPulled n) refl (resize_image n disk.pending disk.seen (fine dev))
+    (pulled_resized n disk.seen _ (is_resized n disk.seen))
 resize_changes (Err e) dev n a b recorded fine =
     let disk = (now a).disks dev in
-    ⊎_elim (λ is. change_once (lost_resize dev n) a b is dev (tried_resize n disk) refl (IsPulled n) refl (resize_image n disk.pending disk.seen (fine dev)))
+    ⊎_elim (λ is. change_once (lost_resize dev n) a b is dev (tried_resize n disk) refl (IsPulled n) refl
+    (resize_image n disk.pending disk.seen (fine dev)) (pulled_none n disk.seen))
     (λ is. change_none a b dev (IsPulled n) (pulled_none n) is) recorded.failed.0
 
 pub resize_done : (r : Result (Unit {0}) Failed) (dev n : ℕ) (a b : Account) → IsRecorded Devices r (λ _. resize dev n) (lost_resize dev n) a b

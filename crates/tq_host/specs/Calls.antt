@@ -98,12 +98,14 @@ pub record Attaches (tells : Told) (dev : ℕ) (path : List ℕ) {T : Type 0} (r
   pub reads : (d : ℕ) → new.reads d ≡ old.reads d
   pub may_leave : (d : ℕ) (c : List ℕ) → new.may_leave d c → old.may_leave d c
 
--- One device is changed; each image that a stop may leave of it is an earlier one after this step, and so is what is read.
+-- One device is changed; each image that a stop may leave of it is an earlier one after this step. What is read is what was read
+-- before, after this step, whether the call failed or not.
 pub record Changes (dev : ℕ) (step : List ℕ → List ℕ → Type 0) (old new : View) : Type 0 where
   pub others_read : (d : ℕ) → d ≢ dev → new.reads d ≡ old.reads d
   pub others : (d : ℕ) (c : List ℕ) → d ≢ dev → new.may_leave d c → old.may_leave d c
   pub attached : new.attached ≡ old.attached
   pub own : (c : List ℕ) → new.may_leave dev c → (b : List ℕ) × old.may_leave dev b × step b c
+  pub own_read : step (old.reads dev) (new.reads dev)
 
 -- a sync that succeeds: a stop leaves what is read
 pub record Syncs (dev : ℕ) (old new : View) : Type 0 where

@@ -26,7 +26,8 @@ impl From<Failed> for Device {
 ///
 /// What is said of a call is an upper bound: each image that a stop may leave after it is an
 /// image from before it after one step. A call that answers `Failed` may have done any part of
-/// its work, and raised the count of its kind.
+/// its work, and raised the count of its kind; it has done nothing else, so what a device reads
+/// outside the bytes that the call was to change is as before, at `Failed` too.
 pub trait Host {
     /// Which meanings it tells.
     ghost tells: { Told };

@@ -1,8 +1,9 @@
 //! Numbers at a place in bytes, and numbers behind bytes.
 
-ghost use Rattle.std.specs.Prelude.{◌≡◌, ◌+◌, ◌≤◌, ◌++◌, length, OnOk};
+ghost use Rattle.std.specs.Prelude.{◌≡◌, ◌+◌, ◌≤◌, ◌++◌, length, take, OnOk};
 ghost use Rattle.tq_field.specs.Digits.{digits};
 ghost use Rattle.tq_field.specs.Places.{number_at, run_at, with_number};
+ghost use Rattle.tq_slots.specs.MessageForm as form;
 
 use std::alloc::AllocError;
 use tq_field::{get_run, get_u16, get_u32, get_u64, put_u16, put_u32, put_u64};
@@ -92,4 +93,72 @@ pub(crate) fn set_number(bytes: &mut [u8], at: usize, n: u32)
     ensures { bytes.new ≡ with_number at 4 n bytes.old }
 {
     let _fits = put_u32(bytes, at, n);
+}
+
+/// Bytes with zeros behind them.
+pub(crate) fn filled<const N: usize>(run: &[u8]) -> [u8; N]
+    requires { length run.now ≤ N }
+    ensures { result ≡ form.filled N run.now }
+{
+    let mut bytes = [0; N];
+    bytes[..run.len()].copy_from_slice(run);
+    bytes
+}
+
+/// Writes bytes from that place on, and gives the place behind them.
+pub(crate) fn put(into: &mut [u8], at: usize, run: &[u8]) -> usize
+    requires { at + length run.now ≤ length into.old }
+    ensures place { result ≡ at + length run.now }
+    ensures front { take result into.new ≡ take at into.old ++ run.now }
+    ensures size { length into.new ≡ length into.old }
+{
+    let end = at + run.len();
+    into[at..end].copy_from_slice(run);
+    end
+}
+
+/// Writes a byte so.
+pub(crate) fn put_byte(into: &mut [u8], at: usize, n: u8) -> usize
+    requires { at + 1 ≤ length into.old }
+    ensures place { result ≡ at + 1 }
+    ensures front { take result into.new ≡ take at into.old ++ digits 1 n }
+    ensures size { length into.new ≡ length into.old }
+{
+    put(into, at, &[n])
+}
+
+/// Writes a number so, in 4 bytes.
+pub(crate) fn put_number(into: &mut [u8], at: usize, n: u32) -> usize
+    requires { at + 4 ≤ length into.old }
+    ensures place { result ≡ at + 4 }
+    ensures front { take result into.new ≡ take at into.old ++ digits 4 n }
+    ensures size { length into.new ≡ length into.old }
+{
+    let mut field = [0; 4];
+    let _fits = put_u32(&mut field, 0, n);
+    put(into, at, &field)
+}
+
+/// Writes a number so, in 8 bytes.
+pub(crate) fn put_long(into: &mut [u8], at: usize, n: u64) -> usize
+    requires { at + 8 ≤ length into.old }
+    ensures place { result ≡ at + 8 }
+    ensures front { take result into.new ≡ take at into.old ++ digits 8 n }
+    ensures size { length into.new ≡ length into.old }
+{
+    let mut field = [0; 8];
+    let _fits = put_u64(&mut field, 0, n);
+    put(into, at, &field)
+}
+
+/// Writes so many bytes 0 so.
+pub(crate) fn put_zeros(into: &mut [u8], at: usize, n: usize) -> usize
+    requires { at + n ≤ length into.old }
+    ensures place { result ≡ at + n }
+    ensures front { take result into.new ≡ take at into.old ++ digits n 0 }
+    ensures size { length into.new ≡ length into.old }
+{
+    let end = at + n;
+    into[at..end].fill(0);
+    end
 }

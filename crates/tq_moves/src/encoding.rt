@@ -4,14 +4,14 @@ ghost use Rattle.std.specs.Prelude.{◌≡◌, ◌<◌, ◌++◌, length, OnOk, 
 ghost use Rattle.std.specs.List.{flat_map};
 ghost use Rattle.tq_field.specs.Digits.{digits};
 ghost use Rattle.tq_gate.specs.Frame.{IsFrame, payload_in};
-ghost use Rattle.tq_slots.specs.Fields.{fields_spelt};
-ghost use Rattle.tq_slots.specs.RecordForm.{AreSets, IsRecord, IsSpelling, record_view, spelt, slot_spelt, set_spelt, kind_number, message_fields, queue_fields, branch_fields};
+ghost use Rattle.tq_slots.specs.RecordForm.{AreSets, IsRecord, IsSpelling, record_view, spelt, slot_spelt, set_spelt, kind_number};
 
-use crate::bytes::{push_byte, push_long, push_number, push_short, push_zeros};
+use crate::bytes::{push_byte, push_short, push_zeros};
 use crate::keys::key;
+use crate::slots::{branch_bytes, message_bytes, queue_bytes};
 use std::alloc::{AllocError, Global};
 use tq_gate::BEFORE_PAYLOAD;
-use tq_slots::{BranchSlot, MessageSlot, QueueSlot, Rec, RecKind, Set};
+use tq_slots::{Rec, RecKind, Set};
 
 /// The number of a kind, 1 to 6.
 fn kind_code(kind: RecKind) -> u8
@@ -25,67 +25,6 @@ fn kind_code(kind: RecKind) -> u8
         RecKind::Forget => 5,
         RecKind::Catalog => 6,
     }
-}
-
-/// Adds a message slot.
-fn push_message(out: &mut Vec<u8>, m: &MessageSlot) -> Result<(), AllocError>
-    ensures { OnOk result (out.new.items ≡ out.old.items ++ fields_spelt (message_fields m.now)) }
-{
-    push_byte(out, m.mark)?;
-    push_byte(out, m.branch)?;
-    push_byte(out, m.queue)?;
-    push_byte(out, m.bits)?;
-    push_byte(out, m.priority)?;
-    push_byte(out, m.root_priority)?;
-    push_byte(out, m.numbers)?;
-    push_byte(out, 0)?;
-    push_number(out, m.retries)?;
-    push_number(out, m.first)?;
-    push_number(out, m.epoch)?;
-    push_number(out, m.number)?;
-    push_long(out, m.available)?;
-    push_long(out, m.expiration)?;
-    push_long(out, m.root_available)?;
-    push_long(out, m.root_expiration)?;
-    push_number(out, m.root_epoch)?;
-    push_number(out, m.root_number)?;
-    Ok(())
-}
-
-/// Adds a queue slot.
-fn push_queue(out: &mut Vec<u8>, q: &QueueSlot) -> Result<(), AllocError>
-    ensures { OnOk result (out.new.items ≡ out.old.items ++ fields_spelt (queue_fields q.now)) }
-{
-    push_byte(out, q.used)?;
-    push_byte(out, q.name_length)?;
-    out.extend_from_slice(&q.name)?;
-    push_byte(out, 0)?;
-    push_byte(out, q.count)?;
-    out.extend_from_slice(&q.criteria)?;
-    push_byte(out, q.last)?;
-    push_byte(out, q.rights)?;
-    push_byte(out, q.qos)?;
-    push_zeros(out, 3)?;
-    push_number(out, q.retries)?;
-    push_long(out, q.delay)?;
-    push_zeros(out, 360)?;
-    Ok(())
-}
-
-/// Adds a branch slot.
-fn push_branch(out: &mut Vec<u8>, b: &BranchSlot) -> Result<(), AllocError>
-    ensures { OnOk result (out.new.items ≡ out.old.items ++ fields_spelt (branch_fields b.now)) }
-{
-    push_byte(out, b.state)?;
-    push_byte(out, b.gtrid_length)?;
-    push_byte(out, b.bqual_length)?;
-    push_byte(out, 0)?;
-    push_number(out, b.format)?;
-    push_number(out, b.number)?;
-    out.extend_from_slice(&b.gtrid)?;
-    out.extend_from_slice(&b.bqual)?;
-    push_zeros(out, 20)?;
-    Ok(())
 }
 
 /// Adds a tag and an index, as one number.
@@ -104,10 +43,11 @@ fn push_slot(out: &mut Vec<u8>, set: &Set) -> Result<(), AllocError>
     ensures { OnOk result (out.new.items ≡ out.old.items ++ slot_spelt set.now) }
 {
     match set {
-        Set::Message(_, m) => push_message(out, m),
-        Set::Queue(_, q) => push_queue(out, q),
-        Set::Branch(_, b) => push_branch(out, b),
+        Set::Message(_, m) => out.extend_from_slice(&message_bytes(m))?,
+        Set::Queue(_, q) => out.extend_from_slice(&queue_bytes(q))?,
+        Set::Branch(_, b) => out.extend_from_slice(&branch_bytes(b))?,
     }
+    Ok(())
 }
 
 /// Adds a set.

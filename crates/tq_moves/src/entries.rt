@@ -1,6 +1,7 @@
 //! The slot of a message, made of its entry and read.
 
 ghost use Rattle.std.specs.Prelude.{◌≡◌, ◌<◌, ◌≤◌, ℕ, option_map};
+ghost use Rattle.std.specs.List.{list_all};
 ghost use Rattle.tq_model.specs.Moves.{entry_view};
 ghost use Rattle.tq_model.specs.Space.{Owner};
 ghost use Rattle.tq_slots.specs.MessageForm as form;
@@ -93,8 +94,15 @@ fn has_moments(slot: &MessageSlot) -> bool
         && (!is_set(slot.bits, 4) || slot.root_expiration <= LAST_MOMENT)
 }
 
+/// Whether the arrivals of a slot are of epochs, its message's and its root's.
+fn has_epochs(slot: &MessageSlot) -> bool
+    ensures { result ≡ form.has_epochs slot.now }
+{
+    slot.epoch >= 1 && slot.root_epoch >= 1
+}
+
 /// Whether a slot is that of a Free entry, its numbers being within their limits.
-fn is_free(slot: &MessageSlot) -> bool
+pub fn is_free_slot(slot: &MessageSlot) -> bool
     ensures { result ≡ is_free_slot slot.now }
 {
     slot.mark == 1
@@ -103,6 +111,7 @@ fn is_free(slot: &MessageSlot) -> bool
         && is_priority(slot.priority)
         && is_priority(slot.root_priority)
         && has_moments(slot)
+        && has_epochs(slot)
 }
 
 /// The arrival of a slot's message.
@@ -145,12 +154,27 @@ fn label(slot: &MessageSlot, header: &Header) -> Label
     }
 }
 
-/// Whether a slot and a header are of one message: one arrival, of which the label ends, and no path or the header's.
+/// Whether an arrival is of an epoch.
+fn has_epoch(arrival: &Arrival) -> bool
+    ensures { result ≡ form.has_epoch arrival.now }
+{
+    arrival.epoch >= 1
+}
+
+/// Whether each arrival of a path is of an epoch.
+fn have_epochs(path: &[Arrival]) -> bool
+    ensures { result ≡ list_all form.has_epoch path.now }
+{
+    path.iter().all(has_epoch)
+}
+
+/// Whether a slot and a header are of one message: one arrival, of which the label ends, and no path or the header's, of epochs all.
 fn go_together(slot: &MessageSlot, header: &Header) -> bool
     ensures { result ≡ form.go_together slot.now header.now }
 {
     slot_arrival(slot) == header.arrival
         && (slot.numbers == 0 || usize::from(slot.numbers) == header.path.len())
+        && have_epochs(path(slot, header).as_slice())
         && label(slot, header).own_arrival() == slot_arrival(slot)
 }
 
@@ -196,7 +220,7 @@ pub fn entry_in(
 ) -> Option<Entry>
     ensures { result ≡ option_map (held_entry slot.now.queue body) (entry_of_slot site number slot.now header.now) }
 {
-    if is_free(slot) && go_together(slot, header) {
+    if is_free_slot(slot) && go_together(slot, header) {
         Some(entry(site, number, slot, header, body))
     } else {
         None

@@ -1,10 +1,12 @@
 //! The slot of a queue, made of it and read.
 
 ghost use Rattle.std.specs.Prelude.{◌≡◌, ◌<◌, ◌≤◌, true, get_or, length, map, take};
-ghost use Rattle.tq_slots.specs.MessageForm.{filled, has_bit};
+ghost use Rattle.tq_slots.specs.MessageForm as message_form;
+ghost use Rattle.tq_slots.specs.MessageForm.{has_bit};
 ghost use Rattle.tq_slots.specs.QueueForm as form;
 ghost use Rattle.tq_slots.specs.QueueForm.{bit_if, criterion_number, criterion_of, has_queue_name, has_queue_numbers, has_queue_order, is_queue_slot, last_number, last_of, order_in_slot, qos_number, qos_of, queue_in_slot, queue_of_slot, slot_name, slot_of_queue};
 
+use crate::bytes::filled;
 use tq_model::{QueueDef, name_in};
 use tq_slots::QueueSlot;
 use tq_types::{Criterion, Last, Name, Order, Qos};
@@ -50,16 +52,6 @@ fn bit(bit: u8, set: bool) -> u8
     if set { bit } else { 0 }
 }
 
-/// A name with zeros behind it.
-fn filled_name(name: &Name) -> [u8; 127]
-    ensures { result ≡ filled 127 name.now }
-{
-    let text = name.as_bytes();
-    let mut bytes = [0; 127];
-    bytes[..text.len()].copy_from_slice(text);
-    bytes
-}
-
 /// The number of the criterion at this place, 0 where there is none.
 fn code_at(criteria: &[Criterion], at: usize) -> u8
     ensures { result ≡ get_or (map criterion_number criteria.now) at 0 }
@@ -73,7 +65,7 @@ fn code_at(criteria: &[Criterion], at: usize) -> u8
 /// The numbers of criteria, with zeros behind them.
 fn criteria_codes(criteria: &[Criterion]) -> [u8; 3]
     requires { length criteria.now ≤ 3 }
-    ensures { result ≡ filled 3 (map criterion_number criteria.now) }
+    ensures { result ≡ message_form.filled 3 (map criterion_number criteria.now) }
 {
     [
         code_at(criteria, 0),
@@ -90,7 +82,7 @@ pub fn queue_slot(queue: &QueueDef) -> QueueSlot
     QueueSlot {
         used: 1,
         name_length: queue.name.as_bytes().len() as u8,
-        name: filled_name(&queue.name),
+        name: filled(queue.name.as_bytes()),
         count: criteria.len() as u8,
         criteria: criteria_codes(criteria),
         last: last_code(queue.order.last()),

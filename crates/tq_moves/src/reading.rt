@@ -68,9 +68,9 @@ fn low_least(least: u32, front: u32) -> u32
     if front == least / 256 { least % 256 } else { 0 }
 }
 
-/// What the bytes of a message slot say.
+/// What the 64 bytes of a message slot say.
 #[tactic(auto, unfolding(tq_slots::specs::RecordForm::message_slot))]
-fn message(bytes: &[u8]) -> MessageSlot
+pub fn read_message_slot(bytes: &[u8]) -> MessageSlot
     requires { length bytes.now ≡ 64 }
     ensures { result ≡ message_slot bytes.now }
 {
@@ -95,9 +95,9 @@ fn message(bytes: &[u8]) -> MessageSlot
     }
 }
 
-/// What the bytes of a queue slot say.
+/// What the 512 bytes of a queue slot say.
 #[tactic(auto, unfolding(tq_slots::specs::RecordForm::queue_slot))]
-fn queue(bytes: &[u8]) -> QueueSlot
+pub fn read_queue_slot(bytes: &[u8]) -> QueueSlot
     requires { length bytes.now ≡ 512 }
     ensures { result ≡ queue_slot bytes.now }
 {
@@ -119,9 +119,9 @@ fn queue(bytes: &[u8]) -> QueueSlot
     }
 }
 
-/// What the bytes of a branch slot say.
+/// What the 160 bytes of a branch slot say.
 #[tactic(auto, unfolding(tq_slots::specs::RecordForm::branch_slot))]
-fn branch(bytes: &[u8]) -> BranchSlot
+pub fn read_branch_slot(bytes: &[u8]) -> BranchSlot
     requires { length bytes.now ≡ 160 }
     ensures { result ≡ branch_slot bytes.now }
 {
@@ -157,9 +157,9 @@ fn set_with(tag: u32, index: u16, slot: &[u8]) -> Set
     ensures { result ≡ set_of tag index slot.now }
 {
     match tag {
-        1 => Set::Message(index, message(slot)),
-        2 => Set::Queue(index, queue(slot)),
-        _ => Set::Branch(index, branch(slot)),
+        1 => Set::Message(index, read_message_slot(slot)),
+        2 => Set::Queue(index, read_queue_slot(slot)),
+        _ => Set::Branch(index, read_branch_slot(slot)),
     }
 }
 

@@ -55,6 +55,7 @@ impl PageStore {
     /// else 1 to 1,016. Nothing is entered then. After `Device` the store is spent.
     pub fn adopt<H: Host>(&mut self, host: &mut H, first: u32) -> Result<u32, ChainError>
         requires reach { H.tells.reads → reaches self.old.clusters ((H.view host.old).reads self.old.dev) ≡ true }
+        ensures some { IfOk result (λ size. 1 ≤ size) }
         ensures chain { IfOk result (λ size. HasAdded self.old first size self.new) }
         ensures held { IfOk result (λ size. H.tells.reads → HasChain self.new first (owned_bytes self.old.clusters ((H.view host.old).reads self.old.dev))) }
         ensures refused { IfErr result (λ e. H.tells.reads → IsRefused self.old (owned_bytes self.old.clusters ((H.view host.old).reads self.old.dev)) first e) }

@@ -27,11 +27,11 @@ impl PageStore {
         requires reach { H.tells.reads → reaches self.old.clusters ((H.view host.old).reads self.old.dev) ≡ true }
         ensures chain { IfOk result (λ first. HasAdded self.old first (length bytes.now) self.new) }
 
-        // The pages are whole ones with these bytes; nothing is written but what was free.
+        // The pages are whole ones with these bytes; nothing is written but what was free, also where the call fails.
         ensures written { IfOk result (λ first. H.tells.reads
             → IsWritten self.new first bytes.now (owned_bytes self.old.clusters ((H.view host.new).reads self.old.dev))) }
-        ensures outside { OnOk result (H.tells.reads
-            → IsSameButFree self.old ((H.view host.old).reads self.old.dev) ((H.view host.new).reads self.old.dev)) }
+        ensures outside { H.tells.reads
+            → IsSameButFree self.old ((H.view host.old).reads self.old.dev) ((H.view host.new).reads self.old.dev) }
         // So the chain has these bytes, and the others keep theirs.
         ensures bytes { IfOk result (λ first. H.tells.reads
             → chain_bytes self.new first (owned_bytes self.old.clusters ((H.view host.new).reads self.old.dev)) ≡ bytes.now) }
@@ -86,8 +86,8 @@ fn write_chain<H: Host>(
     ensures buffer { length buffer.new ≡ 66560 }
     ensures written { OnOk result (H.tells.reads
         → AreWritten next.now first (stores.chain_pages (length bytes.now)) bytes.now (owned_bytes map.now ((H.view host.new).reads dev))) }
-    ensures outside { OnOk result (H.tells.reads
-        → OnBytes map.now (IsSameButPages next.now first (stores.chain_pages (length bytes.now))) ((H.view host.old).reads dev) ((H.view host.new).reads dev)) }
+    ensures outside { H.tells.reads
+        → OnBytes map.now (IsSameButPages next.now first (stores.chain_pages (length bytes.now))) ((H.view host.old).reads dev) ((H.view host.new).reads dev) }
     ensures stop { AllReach dev map.now (H.view host.old)
         → Within dev (OnBytes map.now (IsSameButPages next.now first (stores.chain_pages (length bytes.now)))) IsAny (H.view host.old) (H.view host.new) }
     ensures rest { KeepsRest dev (H.view host.old) (H.view host.new) }
@@ -138,8 +138,8 @@ fn write_run<H: Host>(
     ensures written { OnOk result (H.tells.reads → (k : ℕ) → k < stores.chain_pages (length bytes.now)
         → HasBytesAt (1024 * page + 1024 * k) (page_form (run_number page behind (stores.chain_pages (length bytes.now)) k) (run_at (payload_bytes * k) payload_bytes bytes.now))
         (owned_bytes map.now ((H.view host.new).reads dev))) }
-    ensures outside { OnOk result (H.tells.reads
-        → OnBytes map.now (IsSameBut (1024 * page) (length pages.old)) ((H.view host.old).reads dev) ((H.view host.new).reads dev)) }
+    ensures outside { H.tells.reads
+        → OnBytes map.now (IsSameBut (1024 * page) (length pages.old)) ((H.view host.old).reads dev) ((H.view host.new).reads dev) }
     ensures stop { AllReach dev map.now (H.view host.old)
         → Within dev (OnBytes map.now (IsSameBut (1024 * page) (length pages.old))) IsAny (H.view host.old) (H.view host.new) }
     ensures rest { KeepsRest dev (H.view host.old) (H.view host.new) }

@@ -1,5 +1,5 @@
 -- Steps after which a device has the journal that it had.
-use Rattle.std.proofs.Common.{◌≡◌, ◌≢◌, ◌<◌, ◌≤◌, inl, inr, ℕ, ◌+◌, List, length, get_or, sym, ◌∙◌, ap, subst, true, arith}
+use Rattle.std.proofs.Common.{◌≡◌, ◌≢◌, ◌<◌, ◌≤◌, inl, inr, ℕ, ◌+◌, List, length, get_or, sym, ◌∙◌, subst, true, arith}
 use Rattle.std.specs.Prelude.{◌/◌}
 use Rattle.tq_model.specs.Site.{header_clusters, numbers_from}
 use Rattle.tq_model.specs.DeviceForm.{header_bytes, cluster_bytes, page_bytes, journal_log_bytes, journal_a, journal_b}

@@ -15,8 +15,8 @@ use tq_host::{Device, Host};
 
 impl SiteJournal {
     /// Raises the epoch, below 4,294,967,295, by a new base of the journal. Takes no memory. In each
-    /// picture the epoch is the old one, or the next one and all else what was read at the start. After
-    /// `Device` the journal is to be loaded again.
+    /// picture the epoch is the old one, or the next one and all else what was read at the start. What is
+    /// read outside the journal stays in any case. After `Device` the journal is to be loaded again.
     pub fn raise_epoch<H: Host>(&mut self, host: &mut H) -> Result<(), Device>
         requires dev { dev_of self.old < 8 }
         requires below { self.old.epoch < last_epoch }
@@ -28,7 +28,8 @@ impl SiteJournal {
         ensures images { OnOk result (AreJournalOf self.old (H.view host.old) → AreJournalOf self.new (H.view host.new)) }
         ensures epoch { OnOk result (self.new.epoch ≡ self.old.epoch + 1) }
         ensures dev { dev_of self.new ≡ dev_of self.old }
-        ensures outside { OnOk result (H.tells.reads → IsSameButJournal (dev_of self.old) ((H.view host.old).reads (dev_of self.old)) ((H.view host.new).reads (dev_of self.old))) }
+        ensures outside { H.tells.reads
+            → IsSameButJournal (dev_of self.old) ((H.view host.old).reads (dev_of self.old)) ((H.view host.new).reads (dev_of self.old)) }
         ensures settled { OnOk result (IsSettled (dev_of self.old) (H.view host.new)) }
         ensures rest { KeepsRest (dev_of self.old) (H.view host.old) (H.view host.new) }
         ensures cause { HasCause (H.view host.old).faults (H.view host.new).faults result }

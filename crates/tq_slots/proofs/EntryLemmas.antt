@@ -1,6 +1,7 @@
 -- An entry's slot and header make that entry again, and what makes an entry is that entry's slot and header.
 use Rattle.std.proofs.Common.{◌≡◌, ℕ, zero, suc, ◌+◌, ◌≤◌, ◌&&◌, ◌||◌, Bool, true, false, cond, not, List, [], ◌∷◌, length, Option, Some, None, refl, sym, ap, ◌∙◌, arith}
 use Rattle.std.specs.Prelude.{◌==◌, nat_le, if◌then◌else◌}
+use Rattle.std.specs.List.{list_all}
 use Rattle.std.proofs.lemmas.Bool.{and_parts, and_from, eq-eqb, eqb-true, leb-true}
 use Rattle.tq_types.specs.declared.identifiers.Arrival.{Arrival}
 use Rattle.tq_types.specs.declared.labels.Label.{Label}
@@ -9,7 +10,7 @@ use Rattle.tq_types.specs.Path.{arrival_eq}
 use Rattle.tq_model.specs.Space.{Entry}
 use Rattle.tq_slots.specs.declared.record.MessageSlot.{MessageSlot}
 use Rattle.tq_slots.specs.declared.message.Header.{Header}
-use Rattle.tq_slots.specs.MessageForm.{bit_of, top_bit, has_bit, moment_or_zero, moment_where, header_of_entry, slot_of_entry, slot_arrival, label_of, entry_with, last_moment, is_priority, has_moments, is_free_slot, go_together, entry_of_slot, read_slot, read_header, is_moment_or_none, HasSlot}
+use Rattle.tq_slots.specs.MessageForm.{bit_of, top_bit, has_bit, moment_or_zero, moment_where, header_of_entry, slot_of_entry, slot_arrival, slot_path, label_of, entry_with, last_moment, is_priority, has_moments, has_epoch, has_epochs, is_free_slot, go_together, entry_of_slot, read_slot, read_header, is_moment_or_none, HasSlot}
 
 -- ---- the bits of a slot
 
@@ -133,6 +134,8 @@ slot-holds site number queue first e has =
       test-or (has_bit 2 b) own has.expiration,
       has.root_available,
       test-or (has_bit 4 b) root.expiration has.root_expiration,
+      has.epoch,
+      has.root_epoch,
     ) refl
 
 together : (site number queue first : ℕ) (e : Entry) → HasSlot site number e → go_together (slot_of_entry queue first e) (header_of_entry e) ≡ true
@@ -142,10 +145,13 @@ together site number queue first e has =
     let n = length e.label.path in
     let same = arrival-same a in
     let numbers : (n == 0 || n == n) ≡ true = either (n == 0) (n == n) (eq-eqb n n refl) in
+    let path : list_all has_epoch (slot_path slot (header_of_entry e)) ≡ true = ap (list_all has_epoch) (path-again e.label.path) ∙ has.path in
     let own : arrival_eq (own_arrival (label_of slot (header_of_entry e))) a ≡ true =
     ap (λ (l : Label). arrival_eq (own_arrival l) a) (label-again queue first e) ∙ ap (λ (x : Arrival). arrival_eq x a) has.own ∙ same in
-    and_from (arrival_eq a a && (n == 0 || n == n)) (arrival_eq (own_arrival (label_of slot (header_of_entry e))) a)
-    (and_from (arrival_eq a a) (n == 0 || n == n) same numbers) own
+    let both = and_from (arrival_eq a a) (n == 0 || n == n) same numbers in
+    let all = and_from (arrival_eq a a && (n == 0 || n == n)) (list_all has_epoch (slot_path slot (header_of_entry e))) both path in
+    and_from (arrival_eq a a && (n == 0 || n == n) && list_all has_epoch (slot_path slot (header_of_entry e)))
+    (arrival_eq (own_arrival (label_of slot (header_of_entry e))) a) all own
   where
     either : (p q : Bool) → q ≡ true → (p || q) ≡ true
     either true q holds = refl
@@ -198,7 +204,8 @@ slot-parts s holds =
     let t3 = nat_le s.bits 7 in
     let t4 = is_priority s.priority in
     let t5 = is_priority s.root_priority in
-    let a5 = (and_parts (t1 && t2 && t3 && t4 && t5) (has_moments s) holds).0 in
+    let a6 = (and_parts (t1 && t2 && t3 && t4 && t5 && has_moments s) (has_epochs s) holds).0 in
+    let a5 = (and_parts (t1 && t2 && t3 && t4 && t5) (has_moments s) a6).0 in
     let a4 = (and_parts (t1 && t2 && t3 && t4) t5 a5).0 in
     let a3 = (and_parts (t1 && t2 && t3) t4 a4).0 in
     let a2 = and_parts (t1 && t2) t3 a3 in
@@ -210,8 +217,9 @@ go-parts : (s : MessageSlot) (h : Header) → go_together s h ≡ true → (slot
 go-parts s h go =
     let arrivals = arrival_eq (slot_arrival s) h.arrival in
     let numbers = s.numbers == 0 || s.numbers == length h.path in
-    let first = (and_parts (arrivals && numbers) (arrival_eq (own_arrival (label_of s h)) (slot_arrival s)) go).0 in
-    let parts = and_parts arrivals numbers first in
+    let path = list_all has_epoch (slot_path s h) in
+    let all = (and_parts (arrivals && numbers && path) (arrival_eq (own_arrival (label_of s h)) (slot_arrival s)) go).0 in
+    let parts = and_parts arrivals numbers (and_parts (arrivals && numbers) path all).0 in
     (arrival-is (slot_arrival s) h.arrival parts.0, parts.1)
 
 slot-same : (site number : ℕ) (s : MessageSlot) (h : Header) → is_free_slot s ≡ true → go_together s h ≡ true

@@ -154,7 +154,7 @@ arrivals-again (a ∷ path) at front back long are =
     ap (arrivals_at (length path) (at + 8)) behind ∙ arrivals-again path (at + 8) ((front ++ e) ++ n) back (omega arith) are.1 in
     ap (arrivals_at (suc (length path)) at) regrouped ∙ (λ i. record { epoch = epoch-is i; number = number-is i } ∷ others i)
 
-filled-wide : (n : ℕ) (bytes : List ℕ) → length bytes ≤ n → length (filled n bytes) ≡ n
+pub filled-wide : (n : ℕ) (bytes : List ℕ) → length bytes ≤ n → length (filled n bytes) ≡ n
 filled-wide n bytes short =
     let all = length-append bytes (digits (n - length bytes) 0) in
     let zeros = length-digits (n - length bytes) 0 in

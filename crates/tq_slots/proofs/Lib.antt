@@ -22,4 +22,6 @@ pub mod FirstPageLemmas
 pub mod HeaderLemmas
 pub mod EntryLemmas
 pub mod QueueFormLemmas
+pub mod BranchFormLemmas
 pub mod SlotImageLemmas
+pub mod BaseLemmas

@@ -253,7 +253,7 @@ queue-read s d wide is =
 
 -- ---- what code makes of numbers
 
-zeros-all : (n : ℕ) → replicate n 0 ≡ digits n 0
+pub zeros-all : (n : ℕ) → replicate n 0 ≡ digits n 0
 unfolding digits
 zeros-all zero = refl
 zeros-all (suc n) =

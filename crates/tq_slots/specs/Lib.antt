@@ -10,4 +10,7 @@ pub mod Fields
 pub mod RecordForm
 pub mod MessageForm
 pub mod QueueForm
+pub mod BranchForm
 pub mod SlotImages
+pub mod BaseForm
+pub mod SpaceReading

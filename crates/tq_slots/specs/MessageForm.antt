@@ -1,6 +1,6 @@
 -- How the header of a message is spelt and read, and which entry a message slot and a header make together.
 use Rattle.std.specs.Prelude.{ℕ, zero, suc, ◌≡◌, ◌+◌, ◌-◌, ◌/◌, ◌%◌, ◌<◌, ◌≤◌, ◌==◌, ◌&&◌, ◌||◌, nat_le, nat_lt, not, Bool, true, false, if◌then◌else◌, List, [], ◌∷◌, ◌++◌, length, get_or, Option, Some, None, ℤ, pos, negsuc}
-use Rattle.std.specs.List.{flat_map, AllByRecursion}
+use Rattle.std.specs.List.{flat_map, list_all, AllByRecursion}
 use Rattle.tq_field.specs.Digits.{digits}
 use Rattle.tq_field.specs.Places.{run_at, number_at}
 use Rattle.tq_types.specs.declared.identifiers.Arrival.{Arrival}
@@ -266,14 +266,23 @@ has_moments s =
     nat_le s.available last_moment && (not (has_bit 2 s.bits) || nat_le s.expiration last_moment)
     && nat_le s.root_available last_moment && (not (has_bit 4 s.bits) || nat_le s.root_expiration last_moment)
 
+-- whether an arrival is of an epoch: the first one is 1
+abbrev pub has_epoch : Arrival → Bool
+has_epoch a = nat_le 1 a.epoch
+
+-- whether the arrivals of a slot are of epochs, its message's and its root's
+abbrev pub has_epochs : MessageSlot → Bool
+has_epochs s = nat_le 1 s.epoch && nat_le 1 s.root_epoch
+
 -- whether a slot is that of a Free entry, its numbers being within their limits
 abbrev pub is_free_slot : MessageSlot → Bool
-is_free_slot s = s.mark == 1 && s.branch == 0 && nat_le s.bits 7 && is_priority s.priority && is_priority s.root_priority && has_moments s
+is_free_slot s = s.mark == 1 && s.branch == 0 && nat_le s.bits 7 && is_priority s.priority && is_priority s.root_priority && has_moments s && has_epochs s
 
--- whether a slot and a header are of one message: one arrival, of which the label ends, and no path or the header's
+-- whether a slot and a header are of one message: one arrival, of which the label ends, and no path or the header's, of epochs all
 abbrev pub go_together : MessageSlot → Header → Bool
 go_together s h =
-    arrival_eq (slot_arrival s) h.arrival && (s.numbers == 0 || s.numbers == length h.path) && arrival_eq (own_arrival (label_of s h)) (slot_arrival s)
+    arrival_eq (slot_arrival s) h.arrival && (s.numbers == 0 || s.numbers == length h.path) && list_all has_epoch (slot_path s h)
+    && arrival_eq (own_arrival (label_of s h)) (slot_arrival s)
 
 -- The entry of a message slot and the header at its first page, for now of a Free one; none where they break a rule.
 unfoldable pub entry_of_slot : ℕ → ℕ → MessageSlot → Header → Option Entry
@@ -334,3 +343,6 @@ pub record HasSlot (site number : ℕ) (e : Entry) : Type 0 where
   pub expiration : is_moment_or_none e.message.expiration ≡ true
   pub root_available : nat_le e.label.root.available last_moment ≡ true
   pub root_expiration : is_moment_or_none e.label.root.expiration ≡ true
+  pub epoch : nat_le 1 e.message.id.epoch ≡ true
+  pub root_epoch : has_epoch e.label.root.arrival ≡ true
+  pub path : list_all has_epoch e.label.path ≡ true

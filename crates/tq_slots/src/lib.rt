@@ -2,6 +2,8 @@
 //! makes of others, and how records and messages are spelt in bytes.
 #![tactic(auto)]
 
+mod base;
+mod branch;
 mod images;
 mod message;
 mod queue;
@@ -10,6 +12,8 @@ mod record;
 ghost use Rattle.tq_slots.specs.SlotsLaw.{BytesLaw, ChainLaw, CrashLaw, CreateLaw, EnqueueLaw, FirstLaw, LoadLaw};
 ghost use Rattle.tq_slots.specs.SlotsLaw.{PagesLaw, PlaceLaw, PlanLaw, ReleaseLaw, RemoveLaw, RoomLaw, SetsLaw, StartLaw};
 
+pub use base::base_is_read;
+pub use branch::{StoredBranch, branches_have_slots};
 pub use images::records_make_slots;
 pub use message::{Header, entries_have_slots};
 pub use queue::queues_have_slots;

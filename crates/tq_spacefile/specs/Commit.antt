@@ -11,7 +11,7 @@ use Rattle.tq_space.specs.Loggable.{size_of, MayFollow}
 use Rattle.tq_spacefile.specs.declared.file.SpaceFile.{SpaceFile}
 use Rattle.tq_spacefile.specs.declared.fault.CommitError.{CommitError}
 use Rattle.tq_spacefile.specs.declared.fault.CommitError.TheVariants.{LogFull, Device, NoMemory}
-use Rattle.tq_spacefile.specs.File.{place_in, clusters_in, held_in, logged_in, HasSpace, IsSameButSpace, IsFile, AreFile, room_for}
+use Rattle.tq_spacefile.specs.File.{place_in, clusters_in, held_in, logged_in, HasSpace, IsFile, AreFile, room_for}
 use Rattle.tq_spacefile.specs.Record.{LacksRoom}
 
 -- an image has the file, and the plan may come next in its log
@@ -26,7 +26,7 @@ AreReady f epoch plan v = (image : List ℕ) → v.may_leave (place_in f).dev im
 abbrev pub logged_after : SpaceFile → Plan → ℕ
 logged_after f plan = logged_in f + (5 + size_of plan)
 
--- The plan is done, in memory and in each image; its payload and a further gate had room. What is read is the same outside the space.
+-- The plan is done, in memory and in each image; its payload and a further gate had room.
 pub record IsDone (tells : Told) (f f' : SpaceFile) (plan : Plan) (old new : View) : Type 0 where
   pub place : place_in f' ≡ place_in f
   pub clusters : clusters_in f' ≡ clusters_in f
@@ -35,7 +35,6 @@ pub record IsDone (tells : Told) (f f' : SpaceFile) (plan : Plan) (old new : Vie
   pub fits : logged_in f + (size_of plan + 6) ≤ log_bytes (place_in f).pages
   pub images : (epoch : ℕ) → AreReady f epoch plan old → AreFile f' epoch new
   pub read : tells.reads → (epoch : ℕ) → IsReady f epoch plan (old.reads (place_in f).dev) → IsFile f' epoch (new.reads (place_in f).dev)
-  pub outside : tells.reads → IsSameButSpace (clusters_in f) (old.reads (place_in f).dev) (new.reads (place_in f).dev)
   pub rest : KeepsRest (place_in f).dev old new
   pub count : new.faults ≡ old.faults
 

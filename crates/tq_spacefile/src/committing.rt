@@ -74,6 +74,9 @@ impl SpaceFile {
         // In each picture the space is the one before the plan, or the one after it.
         ensures stop { (epoch : ℕ) → AreReady self.old epoch plan (H.view host.old)
             → Within (place_in self.old).dev (IsSameButSpace (clusters_in self.old)) (IsOldOrDone self.old epoch plan) (H.view host.old) (H.view host.new) }
+        // What is read outside the space stays in any case.
+        ensures outside { H.tells.reads
+            → IsSameButSpace (clusters_in self.old) ((H.view host.old).reads (place_in self.old).dev) ((H.view host.new).reads (place_in self.old).dev) }
         ensures failed { IfErr result (HasFailed self.old self.new plan (host.new ≡ host.old) (H.view host.old) (H.view host.new)) }
     {
         let mut frame = prepare(alloc, &mut self.space, &self.log, &plan)?;

@@ -14,7 +14,7 @@ use tq_model::Shape;
 
 /// Makes the pages of a new space of this shape, within its limits, on the clusters of this map, to
 /// whose end the device reaches. A space that no table names is not read, and nothing outside the
-/// clusters is changed, so a stop inside leaves the device as it was.
+/// clusters is changed, so a stop inside leaves the device as it was, and so does a call that failed.
 pub fn format<H: Host>(host: &mut H, dev: u8, map: &PageMap, shape: &Shape) -> Result<(), Failed>
     requires dev { dev < 8 }
     requires queues { (1 ≤ shape.now.queues) × (shape.now.queues ≤ 256) }
@@ -25,7 +25,7 @@ pub fn format<H: Host>(host: &mut H, dev: u8, map: &PageMap, shape: &Shape) -> R
     requires enough { shape.now.pages ≤ page_count map.now }
     requires reach { H.tells.reads → reaches map.now ((H.view host.old).reads dev) ≡ true }
     ensures done { OnOk result (H.tells.reads → IsFormatted shape.now map.now ((H.view host.new).reads dev)) }
-    ensures kept { OnOk result (H.tells.reads → IsSameButSpace map.now ((H.view host.old).reads dev) ((H.view host.new).reads dev)) }
+    ensures outside { H.tells.reads → IsSameButSpace map.now ((H.view host.old).reads dev) ((H.view host.new).reads dev) }
     ensures settled { OnOk result (IsSettled dev (H.view host.new)) }
     ensures stop { AllReach dev map.now (H.view host.old) → Within dev (IsSameButSpace map.now) IsAny (H.view host.old) (H.view host.new) }
     ensures rest { KeepsRest dev (H.view host.old) (H.view host.new) }

@@ -41,7 +41,7 @@ pub enter-requires-clause-size : goal.enter-requires-clause-size
 enter-requires-clause-size g c = λ told.
     let formatted = g.H.Host.view c.format.new.host in
     subst (λ d. header_bytes ≤ length (formatted.reads d)) (sym c.requires.dev)
-    (omega (arith, (c.requires.holds told).has.size, (c.in_ok-grow.ensures.done told).0.longer, (c.in_ok-format.ensures.kept told).size))
+    (omega (arith, (c.requires.holds told).has.size, (c.in_ok-grow.ensures.done told).0.longer, (c.in_ok-format.ensures.outside told).size))
 
 pub enter-requires-clause-reach : goal.enter-requires-clause-reach
 enter-requires-clause-reach g c = λ told.
@@ -54,7 +54,7 @@ enter-requires-clause-reach g c = λ told.
     subst (λ d. reaches (clusters_of n.extents) (formatted.reads d) ≡ true) (sym c.requires.dev)
     (new_pages t c.requires.dev c.requires.number n shape c.requires.reserved c.end.result old grown
     g.H.Host.tells c.args.map.now c.requires.map c.end.ensures.reach c.in_ok-grow.ensures.done formatted
-    c.in_ok-format.ensures.kept c.in_ok-format.ensures.done told).reach
+    c.in_ok-format.ensures.outside c.in_ok-format.ensures.done told).reach
 
 pub returns-in_err-enter-clause-stop : goal.returns-in_err-enter-clause-stop
 returns-in_err-enter-clause-stop g c = λ have.
@@ -66,7 +66,7 @@ returns-in_err-enter-clause-stop g c = λ have.
     let formatted = g.H.Host.view c.format.new.host in
     let pages = new_pages t c.requires.dev c.requires.number n shape c.requires.reserved c.end.result old grown
     g.H.Host.tells c.args.map.now c.requires.map c.end.ensures.reach c.in_ok-grow.ensures.done formatted
-    c.in_ok-format.ensures.kept c.in_ok-format.ensures.done in
+    c.in_ok-format.ensures.outside c.in_ok-format.ensures.done in
     stop_entered t c.requires.dev c.requires.number n shape c.requires.reserved c.end.result old grown
     g.H.Host.tells c.args.map.now c.requires.map c.end.ensures.reach c.in_ok-grow.ensures.done formatted
     (g.met.H.Host.lawful c.grow.new.host) c.in_ok-grow.ensures.settled have c.grow.ensures.stop c.format.ensures.stop
@@ -91,7 +91,7 @@ returns-clause-table g c = λ told.
     let new = g.H.Host.view c.enter.new.host in
     let has = table_there t c.requires.dev c.requires.number n shape c.requires.reserved c.end.result old grown
     g.H.Host.tells c.args.map.now c.requires.map c.end.ensures.reach c.in_ok-grow.ensures.done formatted
-    c.in_ok-format.ensures.kept c.in_ok-format.ensures.done told (c.requires.holds told) in
+    c.in_ok-format.ensures.outside c.in_ok-format.ensures.done told (c.requires.holds told) in
     subst (λ d. IsTableOf c.enter.new.self (new.reads d)) c.requires.dev
     (c.in_ok-enter.ensures.entered told (subst (λ d. IsTableOf t (formatted.reads d)) (sym c.requires.dev) has))
 
@@ -105,7 +105,7 @@ returns-clause-pages g c = λ told.
     let formatted = g.H.Host.view c.format.new.host in
     pages_stay t c.requires.dev c.requires.number n shape c.requires.reserved c.end.result old grown
     g.H.Host.tells c.args.map.now c.requires.map c.end.ensures.reach c.in_ok-grow.ensures.done formatted
-    c.in_ok-format.ensures.kept c.in_ok-format.ensures.done (g.H.Host.view c.enter.new.host) (c.in_ok-enter.ensures.outside told) told
+    c.in_ok-format.ensures.outside c.in_ok-format.ensures.done (g.H.Host.view c.enter.new.host) (c.in_ok-enter.ensures.outside told) told
 
 pub returns-clause-stop : goal.returns-clause-stop
 returns-clause-stop g c = λ have.
@@ -117,7 +117,7 @@ returns-clause-stop g c = λ have.
     let formatted = g.H.Host.view c.format.new.host in
     let pages = new_pages t c.requires.dev c.requires.number n shape c.requires.reserved c.end.result old grown
     g.H.Host.tells c.args.map.now c.requires.map c.end.ensures.reach c.in_ok-grow.ensures.done formatted
-    c.in_ok-format.ensures.kept c.in_ok-format.ensures.done in
+    c.in_ok-format.ensures.outside c.in_ok-format.ensures.done in
     stop_entered t c.requires.dev c.requires.number n shape c.requires.reserved c.end.result old grown
     g.H.Host.tells c.args.map.now c.requires.map c.end.ensures.reach c.in_ok-grow.ensures.done formatted
     (g.met.H.Host.lawful c.grow.new.host) c.in_ok-grow.ensures.settled have c.grow.ensures.stop c.format.ensures.stop

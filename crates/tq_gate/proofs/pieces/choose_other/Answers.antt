@@ -4,7 +4,7 @@ use Rattle.tq_extent.proofs.BytesLemmas.{length-owned}
 use Rattle.tq_gate.specs.Layout.{clusters_of, bytes_in, other_area}
 use Rattle.tq_gate.specs.Log.{IsOpen, IsChoosing, IsSameBeside, IsSameButAreas, replaced}
 use Rattle.tq_gate.proofs.PictureLemmas.{stays}
-use Rattle.tq_gate.proofs.ReplaceLemmas.{beside_steps, chooses, chooses_other, selected, selector_within, only_selector, written_beside}
+use Rattle.tq_gate.proofs.ReplaceLemmas.{beside_steps, chooses, chooses_other, selected, selector_within, selector_beside}
 use Rattle.tq_gate.proofs.pieces.choose_other.Goals as goal
 
 pub returns-in_err-write_at-clause-stop : goal.returns-in_err-write_at-clause-stop
@@ -42,11 +42,20 @@ returns-clause-chosen g c = λ told k base is.
     (selected log.layout log.area log.placed c.requires.two c.in-Two.selector c.in-Two.is log.end k base (bytes_in log.layout old) (bytes_in log.layout mid) c.from-chosen.result chosen
     (omega (arith, log.placed.laid_out.end)) is.is (c.in_ok-write_at.ensures.written told).bytes)
 
+pub returns-in_err-write_at-clause-outside : goal.returns-in_err-write_at-clause-outside
+returns-in_err-write_at-clause-outside g c = λ told.
+    selector_beside c.args.log.now c.requires.two c.in-Two.selector c.in-Two.is _ _ (c.write_at.ensures.outside told)
+
+pub returns-in_err-sync-clause-outside : goal.returns-in_err-sync-clause-outside
+returns-in_err-sync-clause-outside g c = λ told.
+    let log = c.args.log.now in
+    let old = (g.H.Host.view c.args.host.now).reads log.layout.dev in
+    subst (λ (image : List ℕ). IsSameButAreas log old image) (sym (c.sync.ensures.still.reads log.layout.dev))
+    (selector_beside log c.requires.two c.in-Two.selector c.in-Two.is old _ (c.write_at.ensures.outside told))
+
 pub returns-clause-outside : goal.returns-clause-outside
 returns-clause-outside g c = λ told.
     let log = c.args.log.now in
     let old = (g.H.Host.view c.args.host.now).reads log.layout.dev in
-    let mid = (g.H.Host.view c.write_at.new.host).reads log.layout.dev in
     subst (λ (image : List ℕ). IsSameButAreas log old image) (sym (c.sync.ensures.still.reads log.layout.dev))
-    (written_beside log c.in-Two.selector _ old mid (selector_within log.layout log.area log.placed c.requires.two c.in-Two.selector c.in-Two.is)
-    (only_selector log.layout log.area log.placed c.requires.two c.in-Two.selector c.in-Two.is) (c.requires.reach told) (c.in_ok-write_at.ensures.written told))
+    (selector_beside log c.requires.two c.in-Two.selector c.in-Two.is old _ (c.write_at.ensures.outside told))

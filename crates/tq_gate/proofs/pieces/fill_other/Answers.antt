@@ -1,11 +1,11 @@
 use Rattle.std.proofs.Common.{◌≡◌, ◌+◌, [], ◌∷◌, ℕ, List, length, take, arith, sym, subst, ◌∙◌}
 use Rattle.tq_host.specs.Calls.{IsWritten}
-use Rattle.tq_extent.proofs.BytesLemmas.{reaches_same, length-owned, on_bytes_steps}
+use Rattle.tq_extent.proofs.BytesLemmas.{reaches_same, length-owned}
 use Rattle.tq_gate.specs.Layout.{clusters_of, bytes_in, base_length, other_area}
 use Rattle.tq_gate.specs.Log.{IsFilled, IsKeptLog, IsSameBeside, IsSameButAreas}
 use Rattle.tq_gate.proofs.PictureLemmas.{stays}
 use Rattle.tq_gate.proofs.StageLemmas.{same_but_written}
-use Rattle.tq_gate.proofs.ReplaceLemmas.{beside_steps, fills_base, fills, other_placed, only_other, beside, base_written, gate_within, filled, written_beside}
+use Rattle.tq_gate.proofs.ReplaceLemmas.{beside_steps, fills_base, fills, other_placed, beside, base_written, base_beside, gate_beside, filled}
 use Rattle.tq_gate.proofs.pieces.fill_other.Goals as goal
 
 pub returns-in_err-write_at-clause-stop : goal.returns-in_err-write_at-clause-stop
@@ -17,7 +17,7 @@ pub write_at-requires-2-clause-reach : goal.write_at-requires-2-clause-reach
 write_at-requires-2-clause-reach g c = λ told.
     let log = c.args.log.now in
     reaches_same (clusters_of log.layout) ((g.H.Host.view c.args.host.now).reads log.layout.dev) ((g.H.Host.view c.write_at.new.host).reads log.layout.dev)
-    (c.in_ok-write_at.ensures.written told).size ∙ c.requires.reach told
+    (c.write_at.ensures.outside told).size ∙ c.requires.reach told
 
 pub returns-in_err-write_at-2-clause-stop : goal.returns-in_err-write_at-2-clause-stop
 returns-in_err-write_at-2-clause-stop g c = λ has.
@@ -69,19 +69,28 @@ returns-clause-filled g c = λ told k is.
           (subst (λ (n : ℕ). IsWritten n (take c.min-gates.result (0 ∷ [])) (bytes_in log.layout mid) (bytes_in log.layout new)) places gate.bytes);
     })
 
+pub returns-in_err-write_at-clause-outside : goal.returns-in_err-write_at-clause-outside
+returns-in_err-write_at-clause-outside g c = λ told.
+    base_beside c.args.log.now c.requires.two c.args.base.now c.other_area-area.result _ _ c.requires.base c.other_area-area.ensures
+    (c.write_at.ensures.outside told)
+
+pub returns-in_err-write_at-2-clause-outside : goal.returns-in_err-write_at-2-clause-outside
+returns-in_err-write_at-2-clause-outside g c = λ told.
+    gate_beside c.args.log.now c.requires.two c.args.base.now c.other_area-area.result c.base_length.result c.min-gates.result _ _ _
+    c.requires.base c.other_area-area.ensures c.base_length.ensures c.min-gates.ensures (c.write_at.ensures.outside told) (c.write_at-2.ensures.outside told)
+
+pub returns-in_err-sync-clause-outside : goal.returns-in_err-sync-clause-outside
+returns-in_err-sync-clause-outside g c = λ told.
+    let log = c.args.log.now in
+    let old = (g.H.Host.view c.args.host.now).reads log.layout.dev in
+    subst (λ (image : List ℕ). IsSameButAreas log old image) (sym (c.sync.ensures.still.reads log.layout.dev))
+    (gate_beside log c.requires.two c.args.base.now c.other_area-area.result c.base_length.result c.min-gates.result old _ _
+    c.requires.base c.other_area-area.ensures c.base_length.ensures c.min-gates.ensures (c.write_at.ensures.outside told) (c.write_at-2.ensures.outside told))
+
 pub returns-clause-outside : goal.returns-clause-outside
 returns-clause-outside g c = λ told.
     let log = c.args.log.now in
     let old = (g.H.Host.view c.args.host.now).reads log.layout.dev in
-    let mid = (g.H.Host.view c.write_at.new.host).reads log.layout.dev in
-    let new = (g.H.Host.view c.write_at-2.new.host).reads log.layout.dev in
-    let base = c.in_ok-write_at.ensures.written told in
-    let within = gate_within log.layout log.area log.placed c.requires.two c.min-gates.result c.min-gates.ensures in
-    let other = other_placed log.layout log.area log.placed c.requires.two in
     subst (λ (image : List ℕ). IsSameButAreas log old image) (sym (c.sync.ensures.still.reads log.layout.dev))
-    ((on_bytes_steps (clusters_of log.layout) (IsSameBeside log.layout) (beside_steps log)).both old mid new
-    (written_beside log c.other_area-area.result c.args.base.now old mid (omega (arith, other.not_past, c.requires.base, c.other_area-area.ensures))
-    (λ a b changed. only_other log.layout log.area log.placed c.requires.two c.other_area-area.result (length c.args.base.now) a b (omega arith) (omega (arith, c.requires.base, c.other_area-area.ensures)) changed) (c.requires.reach told) base)
-    (written_beside log _ _ mid new (omega (arith, other.not_past, within, c.other_area-area.ensures, c.base_length.ensures))
-    (λ a b changed. only_other log.layout log.area log.placed c.requires.two _ _ a b (omega arith) (omega (arith, within, c.other_area-area.ensures, c.base_length.ensures)) changed)
-    (reaches_same (clusters_of log.layout) old mid base.size ∙ c.requires.reach told) (c.in_ok-write_at-2.ensures.written told)))
+    (gate_beside log c.requires.two c.args.base.now c.other_area-area.result c.base_length.result c.min-gates.result old _ _
+    c.requires.base c.other_area-area.ensures c.base_length.ensures c.min-gates.ensures (c.write_at.ensures.outside told) (c.write_at-2.ensures.outside told))

@@ -4,7 +4,7 @@ use Rattle.tq_gate.specs.Layout.{clusters_of, bytes_in}
 use Rattle.tq_gate.specs.Log.{IsOpen, IsOpening, IsSameButIn, IsSameButLog, added}
 use Rattle.tq_gate.proofs.Contents.{log_within}
 use Rattle.tq_gate.proofs.PictureLemmas.{stays}
-use Rattle.tq_gate.proofs.StageLemmas.{log_steps, opens, opened, same_but_written, written_in_log}
+use Rattle.tq_gate.proofs.StageLemmas.{log_steps, opens, opened, same_but_written, write_in_log}
 use Rattle.tq_gate.proofs.pieces.open_gate.Goals as goal
 
 pub returns-in_err-write_at-clause-stop : goal.returns-in_err-write_at-clause-stop
@@ -43,10 +43,20 @@ returns-clause-opened g c = λ told k payload staged.
     (sym (c.sync.ensures.still.reads log.layout.dev))
     (opened log.layout log.area log.placed log.end k payload old mid c.place.result c.place.ensures staged.is changed gate)
 
+pub returns-in_err-write_at-clause-outside : goal.returns-in_err-write_at-clause-outside
+returns-in_err-write_at-clause-outside g c = λ told.
+    write_in_log c.args.log.now c.place.result _ _ _ (omega arith) (omega (arith, c.requires.fits)) (c.write_at.ensures.outside told)
+
+pub returns-in_err-sync-clause-outside : goal.returns-in_err-sync-clause-outside
+returns-in_err-sync-clause-outside g c = λ told.
+    let log = c.args.log.now in
+    let old = (g.H.Host.view c.args.host.now).reads log.layout.dev in
+    subst (λ (image : List ℕ). IsSameButLog log old image) (sym (c.sync.ensures.still.reads log.layout.dev))
+    (write_in_log log c.place.result _ old _ (omega arith) (omega (arith, c.requires.fits)) (c.write_at.ensures.outside told))
+
 pub returns-clause-outside : goal.returns-clause-outside
 returns-clause-outside g c = λ told.
     let log = c.args.log.now in
     let old = (g.H.Host.view c.args.host.now).reads log.layout.dev in
-    let mid = (g.H.Host.view c.write_at.new.host).reads log.layout.dev in
     subst (λ (image : List ℕ). IsSameButLog log old image) (sym (c.sync.ensures.still.reads log.layout.dev))
-    (written_in_log log c.place.result _ old mid (omega arith) (omega (arith, c.requires.fits)) (c.requires.reach told) (c.in_ok-write_at.ensures.written told))
+    (write_in_log log c.place.result _ old _ (omega arith) (omega (arith, c.requires.fits)) (c.write_at.ensures.outside told))

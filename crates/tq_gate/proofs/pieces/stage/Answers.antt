@@ -6,7 +6,7 @@ use Rattle.tq_gate.specs.Layout.{clusters_of, bytes_in}
 use Rattle.tq_gate.specs.Log.{IsStaged, IsSameButIn, IsSameButLog, IsKeptLog}
 use Rattle.tq_gate.proofs.FrameLemmas.{length-behind_gate}
 use Rattle.tq_gate.proofs.PictureLemmas.{keeps_start, stays}
-use Rattle.tq_gate.proofs.StageLemmas.{log_steps, keeps_behind, staged, written_in_log}
+use Rattle.tq_gate.proofs.StageLemmas.{log_steps, keeps_behind, staged, write_in_log}
 use Rattle.tq_gate.proofs.pieces.stage.Goals as goal
 
 pub returns-in_err-write_at-clause-stop : goal.returns-in_err-write_at-clause-stop
@@ -48,11 +48,23 @@ returns-clause-staged g c = λ told k is.
           (take_rest c.close_frame.new.frame 1 ∙ c.close_frame.ensures) c.place.ensures is.is written.bytes;
     })
 
+pub returns-in_err-write_at-clause-outside : goal.returns-in_err-write_at-clause-outside
+returns-in_err-write_at-clause-outside g c = λ told.
+    let size = ap length (take_rest c.close_frame.new.frame 1 ∙ c.close_frame.ensures) ∙ length-behind_gate (payload_in c.args.frame.now) in
+    write_in_log c.args.log.now c.place.result _ _ _ (omega arith) (omega (arith, size)) (c.write_at.ensures.outside told)
+
+pub returns-in_err-sync-clause-outside : goal.returns-in_err-sync-clause-outside
+returns-in_err-sync-clause-outside g c = λ told.
+    let log = c.args.log.now in
+    let old = (g.H.Host.view c.args.host.now).reads log.layout.dev in
+    let size = ap length (take_rest c.close_frame.new.frame 1 ∙ c.close_frame.ensures) ∙ length-behind_gate (payload_in c.args.frame.now) in
+    subst (λ (image : List ℕ). IsSameButLog log old image) (sym (c.sync.ensures.still.reads log.layout.dev))
+    (write_in_log log c.place.result _ old _ (omega arith) (omega (arith, size)) (c.write_at.ensures.outside told))
+
 pub returns-clause-outside : goal.returns-clause-outside
 returns-clause-outside g c = λ told.
     let log = c.args.log.now in
     let old = (g.H.Host.view c.args.host.now).reads log.layout.dev in
-    let mid = (g.H.Host.view c.write_at.new.host).reads log.layout.dev in
     let size = ap length (take_rest c.close_frame.new.frame 1 ∙ c.close_frame.ensures) ∙ length-behind_gate (payload_in c.args.frame.now) in
     subst (λ (image : List ℕ). IsSameButLog log old image) (sym (c.sync.ensures.still.reads log.layout.dev))
-    (written_in_log log c.place.result _ old mid (omega arith) (omega (arith, size)) (c.requires.reach told) (c.in_ok-write_at.ensures.written told))
+    (write_in_log log c.place.result _ old _ (omega arith) (omega (arith, size)) (c.write_at.ensures.outside told))

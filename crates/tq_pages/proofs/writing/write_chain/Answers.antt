@@ -132,6 +132,36 @@ returns-in_err-write_run-clause-stop g c = λ reach.
     (stop_more dev clusters next first all (1024 * page) (1024 * count) start mid new reach inside (inv.stop reach)
     (λ r. subst (λ n. Within dev (OnBytes clusters (IsSameBut (1024 * page) n)) IsAny mid new) size (c.write_run.ensures.stop r)))
 
+pub returns-in_err-write_run-clause-outside : goal.returns-in_err-write_run-clause-outside
+returns-in_err-write_run-clause-outside g c = λ told.
+    let inv = c.loop-done.invariant in
+    let clusters = c.args.map.now in
+    let next = c.args.next.now in
+    let first = c.args.first in
+    let bytes = c.args.bytes.now in
+    let all = c.chain_pages-all.result in
+    let done = c.loop-done.done in
+    let page = c.loop-done.page in
+    let count = c.run_length-count.result in
+    let are = subst (λ n. ArePages clusters next first n) (sym c.chain_pages-all.ensures) c.requires.pages in
+    let range : done + count ≤ all = omega (arith, inv.range, c.run_length-count.ensures.most, c.min-most.ensures) in
+    let some = c.run_length-count.ensures.some in
+    let run = c.run_length-count.ensures.run in
+    let within = run_within clusters next first all done page count are inv.page range some run in
+    let mapped = run_mapped clusters next first all done page count are inv.page range some run in
+    let dev = c.args.dev in
+    let start = g.H.Host.view c.args.host.now in
+    let mid = g.H.Host.view c.loop-done.host in
+    let new = g.H.Host.view c.write_run.new.host in
+    let size : length (take (1024 * count) c.loop-done.buffer) ≡ 1024 * count = omega (arith, length-take (1024 * count) c.loop-done.buffer, inv.room, c.min-most.ensures) in
+    let inside = run_in_chain clusters next first all done page count are inv.page range some run in
+    let step = subst (λ n. OnBytes clusters (IsSameBut (1024 * page) n) (mid.reads dev) (new.reads dev)) size (c.write_run.ensures.outside told) in
+    subst (λ n. OnBytes clusters (IsSameButPages next first n) (start.reads dev) (new.reads dev)) c.chain_pages-all.ensures
+    ((on_bytes_steps clusters (IsSameButPages next first all) (pages_steps next first all)).both (start.reads dev) (mid.reads dev) (new.reads dev)
+    (inv.beside told)
+    (on_bytes_as clusters (IsSameBut (1024 * page) (1024 * count)) (IsSameButPages next first all) (mid.reads dev) (new.reads dev)
+    (inside (owned_bytes clusters (mid.reads dev)) (owned_bytes clusters (new.reads dev))) step))
+
 pub overflow_add-page-in-loop-done : goal.overflow_add-page-in-loop-done
 overflow_add-page-in-loop-done g c =
     let inv = c.loop-done.invariant in
@@ -201,7 +231,7 @@ loop-done-preserved g c =
     let size : length (take (1024 * count) c.loop-done.buffer) ≡ 1024 * count = omega (arith, length-take (1024 * count) c.loop-done.buffer, inv.room, c.min-most.ensures) in
     let inside = run_in_chain clusters next first all done page count are inv.page range some run in
     let step : g.H.Host.tells.reads → OnBytes clusters (IsSameBut (1024 * page) (1024 * count)) (mid.reads dev) (new.reads dev) = λ told.
-    subst (λ n. OnBytes clusters (IsSameBut (1024 * page) n) (mid.reads dev) (new.reads dev)) size (c.in_ok-write_run.ensures.outside told) in
+    subst (λ n. OnBytes clusters (IsSameBut (1024 * page) n) (mid.reads dev) (new.reads dev)) size (c.write_run.ensures.outside told) in
     let P = IsSameButPages next first all in
     record {
       range = range;

@@ -1,5 +1,5 @@
 use Rattle.std.proofs.Common.{◌≡◌, ℕ, List, length, sym, subst, ◌∙◌, arith}
-use Rattle.tq_host.specs.Calls.{IsSameBut, IsWritten}
+use Rattle.tq_host.specs.Calls.{IsSameBut}
 use Rattle.tq_extent.specs.Bytes.{owned_bytes}
 use Rattle.tq_extent.proofs.BytesLemmas.{reaches_same}
 use Rattle.tq_spacefile.specs.File.{IsFormatted, IsSameButSpace}
@@ -35,10 +35,20 @@ returns-clause-done g c = λ told.
     subst (λ (image : List ℕ). IsFormatted s map image) (sym (c.sync.ensures.still.reads c.args.dev))
     (formatted s map page (owned_bytes map old) mid size asked.enough (reaches_same map old mid step.size ∙ asked.reach told) step.bytes within asked.pages.0 c.encode_page.ensures.spelt)
 
-pub returns-clause-kept : goal.returns-clause-kept
-returns-clause-kept g c = λ told.
+pub returns-in_err-write_at-clause-outside : goal.returns-in_err-write_at-clause-outside
+returns-in_err-write_at-clause-outside g c = λ told.
+    space_step c.args.map.now (IsSameBut 0 (length c.encode_page.result)) _ _ (c.write_at.ensures.outside told)
+
+pub returns-in_err-sync-clause-outside : goal.returns-in_err-sync-clause-outside
+returns-in_err-sync-clause-outside g c = λ told.
     let map = c.args.map.now in
     let old = (g.H.Host.view c.args.host.now).reads c.args.dev in
-    let mid = (g.H.Host.view c.write_at.new.host).reads c.args.dev in
     subst (λ (image : List ℕ). IsSameButSpace map old image) (sym (c.sync.ensures.still.reads c.args.dev))
-    (space_step map (IsWritten 0 c.encode_page.result) old mid (c.in_ok-write_at.ensures.written told))
+    (space_step map (IsSameBut 0 (length c.encode_page.result)) old _ (c.write_at.ensures.outside told))
+
+pub returns-clause-outside : goal.returns-clause-outside
+returns-clause-outside g c = λ told.
+    let map = c.args.map.now in
+    let old = (g.H.Host.view c.args.host.now).reads c.args.dev in
+    subst (λ (image : List ℕ). IsSameButSpace map old image) (sym (c.sync.ensures.still.reads c.args.dev))
+    (space_step map (IsSameBut 0 (length c.encode_page.result)) old _ (c.write_at.ensures.outside told))

@@ -8,7 +8,7 @@ use Rattle.tq_devtab.specs.Device.{IsAny, IsLonger}
 use Rattle.tq_devtab.specs.Table.{IsTable}
 use Rattle.tq_devtab.specs.Volume.{IsSameButTable, IsTableOrNext, most_bytes, with_longer}
 use Rattle.tq_devtab.specs.InMemory.{dev_of, part_of, place_of}
-use Rattle.tq_devtab.proofs.LongerLemmas.{further_reached, images_grown, longer_entries, longer_in, longer_table, longer_then, stop_grown, stop_none, stop_stored, table_of_longer}
+use Rattle.tq_devtab.proofs.LongerLemmas.{further_reached, images_grown, longer_alone, longer_entries, longer_in, longer_none, longer_table, longer_then, stop_grown, stop_none, stop_stored, table_of_longer}
 use Rattle.tq_devtab.proofs.StoreLemmas.{space_there, table_images}
 use Rattle.tq_devtab.proofs.table.DeviceTable.extend_space.Goals as goal
 
@@ -153,13 +153,42 @@ returns-clause-images g c = λ are.
     table_images c.args.self.now c.store.new.self (g.H.Host.view c.args.host.now) (g.H.Host.view c.store.new.host) (g.met.H.Host.lawful c.args.host.now) (g.met.H.Host.lawful c.store.new.host)
     c.store.ensures.dev c.in_ok-store.ensures.settled (returns-clause-extended g c) are
 
+pub returns-in_err-entry-clause-outside : goal.returns-in_err-entry-clause-outside
+returns-in_err-entry-clause-outside g c = λ told.
+    let t = c.args.self.now in
+    longer_none (dev_of t) (cluster_bytes * t.clusters) ((g.H.Host.view c.args.host.now).reads (dev_of t))
+
+pub returns-in_err-grow-clause-outside : goal.returns-in_err-grow-clause-outside
+returns-in_err-grow-clause-outside g c = λ told.
+    let t = c.args.self.now in
+    let n = space_there t c.args.ordinal c.requires.there in
+    let more = c.in_ok-entry.end in
+    let end = c.in_ok-entry.ensures.least n.0 n.1 (cluster_bytes * t.clusters) (further_reached t c.args.ordinal c.args.pages n.0 n.1) in
+    let old = g.H.Host.view c.args.host.now in
+    let mid = g.H.Host.view c.grow.new.host in
+    longer_alone (dev_of t) more (cluster_bytes * t.clusters) (old.reads (dev_of t)) (mid.reads (dev_of t)) end
+    (subst (λ (l : Layout). IsLonger more (old.reads l.dev) (mid.reads l.dev)) c.layout.ensures (c.grow.ensures.outside told))
+
+pub returns-in_err-store-clause-outside : goal.returns-in_err-store-clause-outside
+returns-in_err-store-clause-outside g c = λ told.
+    let t = c.args.self.now in
+    let n = space_there t c.args.ordinal c.requires.there in
+    let more = c.in_ok-entry.end in
+    let end = c.in_ok-entry.ensures.least n.0 n.1 (cluster_bytes * t.clusters) (further_reached t c.args.ordinal c.args.pages n.0 n.1) in
+    let old = g.H.Host.view c.args.host.now in
+    let mid = g.H.Host.view c.grow.new.host in
+    let grown = subst (λ (l : Layout). IsLonger more (old.reads l.dev) (mid.reads l.dev)) c.layout.ensures (c.grow.ensures.outside told) in
+    longer_then (dev_of t) more (cluster_bytes * t.clusters) (old.reads (dev_of t)) (mid.reads (dev_of t))
+    ((g.H.Host.view c.store.new.host).reads (dev_of t)) end grown (c.store.ensures.outside told)
+
 pub returns-clause-outside : goal.returns-clause-outside
 returns-clause-outside g c = λ told.
     let t = c.args.self.now in
     let n = space_there t c.args.ordinal c.requires.there in
+    let more = c.in_ok-entry.end in
     let end = c.in_ok-entry.ensures.least n.0 n.1 (cluster_bytes * t.clusters) (further_reached t c.args.ordinal c.args.pages n.0 n.1) in
     let old = g.H.Host.view c.args.host.now in
     let mid = g.H.Host.view c.grow.new.host in
-    let grown = subst (λ (l : Layout). IsLonger c.in_ok-entry.end (old.reads l.dev) (mid.reads l.dev)) c.layout.ensures (c.in_ok-grow.ensures.done told).0 in
-    longer_then (dev_of t) c.in_ok-entry.end (cluster_bytes * t.clusters) (old.reads (dev_of t)) (mid.reads (dev_of t)) ((g.H.Host.view c.store.new.host).reads (dev_of t)) end grown
-    (c.in_ok-store.ensures.outside told)
+    let grown = subst (λ (l : Layout). IsLonger more (old.reads l.dev) (mid.reads l.dev)) c.layout.ensures (c.grow.ensures.outside told) in
+    longer_then (dev_of t) more (cluster_bytes * t.clusters) (old.reads (dev_of t)) (mid.reads (dev_of t))
+    ((g.H.Host.view c.store.new.host).reads (dev_of t)) end grown (c.store.ensures.outside told)

@@ -12,7 +12,7 @@ use Rattle.tq_devtab.specs.Table.{entries_view, table_of}
 use Rattle.tq_devtab.specs.Volume.{IsSameButTable, IsTableOrNext}
 use Rattle.tq_devtab.specs.InMemory.{dev_of, part_of, place_of}
 use Rattle.tq_devtab.proofs.PictureLemmas.{on_ok}
-use Rattle.tq_devtab.proofs.StoreLemmas.{both_ok, beside_table, next_table, has_log, old_or_next}
+use Rattle.tq_devtab.proofs.StoreLemmas.{beside_table, next_table, has_log, old_or_next}
 use Rattle.tq_devtab.proofs.table.DeviceTable.store.Goals as goal
 
 -- the base that was written into the room
@@ -31,6 +31,11 @@ returns-clause-stop g c = λ d are.
     (IsTableOrNext (dev_of t) (place_of t) d (part_of t) (old.reads (dev_of t))) old (g.H.Host.view c.replace.new.host)
     (old_or_next t d base spelt old are) (c.replace.ensures.stop (has_log t d base spelt old are))
 
+pub returns-clause-outside : goal.returns-clause-outside
+returns-clause-outside g c = λ told.
+    let t = c.args.self.now in
+    beside_table t ((g.H.Host.view c.args.host.now).reads (dev_of t)) ((g.H.Host.view c.replace.new.host).reads (dev_of t)) (c.replace.ensures.outside told)
+
 pub returns-clause-stored : goal.returns-clause-stored
 returns-clause-stored g c =
     let t = c.args.self.now in
@@ -38,17 +43,11 @@ returns-clause-stored g c =
     let new = (g.H.Host.view c.replace.new.host).reads (dev_of t) in
     let old = (g.H.Host.view c.args.host.now).reads (dev_of t) in
     let spelt = base_spelt t c.encode_table.new.base base c.as_slice.result.now c.deref.ensures.value c.encode_table.ensures.size c.as_slice.ensures.value c.encode_table.ensures.spelt in
-    both_ok c.replace.result c.replace.ensures.replaced c.replace.ensures.outside (λ is outside told d change.
+    on_ok c.replace.result c.replace.ensures.replaced (λ is told d change.
     let log = is told change.holds change.log in
     record {
-      has = next_table t d base spelt old new change (beside_table t old new (outside told))
+      has = next_table t d base spelt old new change (returns-clause-outside g c told)
           (subst (λ (l : Layout). content_on l new ≡ Some (replaced base)) (c.replace.ensures.layout ∙ t.layout) log.is.reads);
       holds = replaced base;
       log = log;
     })
-
-pub returns-clause-outside : goal.returns-clause-outside
-returns-clause-outside g c =
-    let t = c.args.self.now in
-    on_ok c.replace.result c.replace.ensures.outside
-    (λ outside told. beside_table t ((g.H.Host.view c.args.host.now).reads (dev_of t)) ((g.H.Host.view c.replace.new.host).reads (dev_of t)) (outside told))

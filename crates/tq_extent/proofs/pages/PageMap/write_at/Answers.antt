@@ -1,11 +1,11 @@
 use Rattle.std.proofs.Common.{◌≡◌, ◌≤◌, ◌+◌, ◌-◌, ◌∙◌, inl, true, length, take, drop, subst, arith}
 use Rattle.tq_host.specs.Calls.{HasBytesAt, IsSameBut, IsWritten}
-use Rattle.tq_host.proofs.Bytes.{same_but_steps, same_but_wider, written_within}
+use Rattle.tq_host.proofs.Bytes.{same_but_steps}
 use Rattle.tq_host.proofs.QuietLemmas.{rest_on, rest_changes}
 use Rattle.tq_host.proofs.Within.{weaker}
 use Rattle.tq_extent.specs.Bytes.{byte_count, owned_bytes, byte_address, reaches, OnBytes, IsAny}
-use Rattle.tq_extent.proofs.BytesLemmas.{reaches_same, on_bytes_steps, on_bytes_as}
-use Rattle.tq_extent.proofs.RunLemmas.{HasReach, row_reached, row_below, row_stands, row_changed, row_stop, first_more, all_written, length-part, get_or-part}
+use Rattle.tq_extent.proofs.BytesLemmas.{reaches_same, on_bytes_steps}
+use Rattle.tq_extent.proofs.RunLemmas.{HasReach, row_below, row_stands, row_torn, row_behind, row_stop, first_more, all_written, length-part, get_or-part}
 use Rattle.tq_extent.proofs.pages.PageMap.write_at.Goals as goal
 
 pub write_at-requires-clause-end : goal.write_at-requires-clause-end
@@ -33,6 +33,24 @@ returns-in_err-write_at-clause-stop g c = λ reach.
     (length-part c.loop-done.done count c.args.from.now (omega arith))
     (c.loop-done.invariant.stop reach) c.write_at.ensures.call c.write_at.ensures.change)
 
+-- what the write of a run did to what is read
+pub returns-in_err-write_at-clause-outside : goal.returns-in_err-write_at-clause-outside
+returns-in_err-write_at-clause-outside g c = λ told.
+    let clusters = c.args.self.now in
+    let dev = c.args.dev in
+    let inv = c.loop-done.invariant in
+    let count = c.run_length-count.result in
+    let place = c.loop-done.place in
+    let row = c.run_length-count.ensures.run in
+    let mid = (g.H.Host.view c.loop-done.host).reads dev in
+    let start = (g.H.Host.view c.args.host.now).reads dev in
+    let new = (g.H.Host.view c.write_at.new.self).reads dev in
+    let here : place + count ≤ byte_count clusters = omega arith in
+    row_behind clusters place count here row c.args.at (length c.args.from.now) start mid new (omega arith) (omega arith) (inv.beside told)
+    (row_torn clusters place count here row _ _ mid new c.run_length-count.ensures.some c.byte_address.ensures.pages.distinct
+    c.byte_address.ensures.address (length-part c.loop-done.done count c.args.from.now (omega arith))
+    (reaches_same clusters start mid (inv.beside told).size ∙ c.requires.reach told) c.write_at.ensures.change.own_read)
+
 pub loop-done-preserved : goal.loop-done-preserved
 loop-done-preserved g c =
     let inv = c.loop-done.invariant in
@@ -59,9 +77,8 @@ loop-done-preserved g c =
     let write : g.H.Host.tells.reads → IsWritten address run (mid.reads dev) (new.reads dev) = λ told.
     subst (λ k. IsWritten k run (mid.reads dev) (new.reads dev)) c.byte_address.ensures.address (c.in_ok-write_at.ensures.written told) in
     let step : g.H.Host.tells.reads → OnBytes clusters (IsSameBut place count) (mid.reads dev) (new.reads dev) = λ told.
-    let end = row_reached clusters place count here row (mid.reads dev) some (reach told) in
-    row_changed clusters place count here row (mid.reads dev) (new.reads dev) distinct (reach told)
-    (written_within address count address run (mid.reads dev) (new.reads dev) (omega arith) (omega arith) end (write told)) in
+    row_torn clusters place count here row _ _ (mid.reads dev) (new.reads dev) some distinct c.byte_address.ensures.address long (reach told)
+    c.write_at.ensures.change.own_read in
     record {
       range = within;
       place = omega arith;
@@ -73,14 +90,8 @@ loop-done-preserved g c =
           first_more at done count from run owned (λ i lt. changed.bytes.outside (at + i) (inl (omega arith)) ∙ inv.bytes told i lt) long
           (get_or-part done count from within)
           (subst (λ k. HasBytesAt k run owned) inv.place stands);
-      beside = λ told.
-          (on_bytes_steps clusters (IsSameBut at (done + count)) (same_but_steps at (done + count))).both (start.reads dev) (mid.reads dev) (new.reads dev)
-          (on_bytes_as clusters (IsSameBut at done) (IsSameBut at (done + count)) (start.reads dev) (mid.reads dev)
-          (same_but_wider at done at (done + count) (owned_bytes clusters (start.reads dev)) (owned_bytes clusters (mid.reads dev)) (omega arith)
-          (omega arith)) (inv.beside told))
-          (on_bytes_as clusters (IsSameBut place count) (IsSameBut at (done + count)) (mid.reads dev) (new.reads dev)
-          (same_but_wider place count at (done + count) (owned_bytes clusters (mid.reads dev)) (owned_bytes clusters (new.reads dev)) (omega arith)
-          (omega arith)) (step told));
+      beside = λ told. row_behind clusters place count here row at (length from) (start.reads dev) (mid.reads dev) (new.reads dev) (omega arith) (omega arith)
+          (inv.beside told) (step told);
       stop = λ reached.
           row_stop clusters place count here row dev at (length from) _ _ start mid new c.write_at.result some (omega arith)
           (omega arith) distinct c.byte_address.ensures.address long

@@ -14,7 +14,7 @@ invariant-loop-done g l =
       range : l.done ≤ length l.from;
       place : l.place ≡ l.at + l.done;
       bytes : told → HasFirstAt l.at l.done l.from (owned_bytes l.self (now.reads l.dev));
-      beside : told → OnBytes l.self (IsSameBut l.at l.done) (start.reads l.dev) (now.reads l.dev);
+      beside : told → OnBytes l.self (IsSameBut l.at (length l.from)) (start.reads l.dev) (now.reads l.dev);
       stop : AllReach l.dev l.self start → Within l.dev (OnBytes l.self (IsSameBut l.at (length l.from))) (HasReach l.self) start now;
       rest : KeepsRest l.dev start now;
       faults : now.faults ≡ start.faults;

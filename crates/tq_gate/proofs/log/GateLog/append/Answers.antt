@@ -20,13 +20,13 @@ pub returns-in_err-open_gate-clause-stop : goal.returns-in_err-open_gate-clause-
 returns-in_err-open_gate-clause-stop g c = λ has.
     appends c.args.self.now (payload_in c.args.frame.now) (g.H.Host.view c.args.host.now) (g.H.Host.view c.stage.new.host) (g.H.Host.view c.open_gate.new.host)
     (g.met.H.Host.lawful c.args.host.now) (g.met.H.Host.lawful c.stage.new.host) has
-    (c.stage.ensures.stop has) c.in_ok-stage.ensures.staged c.in_ok-stage.ensures.outside c.in_ok-stage.ensures.settled c.open_gate.ensures.stop
+    (c.stage.ensures.stop has) c.in_ok-stage.ensures.staged c.stage.ensures.outside c.in_ok-stage.ensures.settled c.open_gate.ensures.stop
 
 pub returns-clause-stop : goal.returns-clause-stop
 returns-clause-stop g c = λ has.
     appends c.args.self.now (payload_in c.args.frame.now) (g.H.Host.view c.args.host.now) (g.H.Host.view c.stage.new.host) (g.H.Host.view c.open_gate.new.host)
     (g.met.H.Host.lawful c.args.host.now) (g.met.H.Host.lawful c.stage.new.host) has
-    (c.stage.ensures.stop has) c.in_ok-stage.ensures.staged c.in_ok-stage.ensures.outside c.in_ok-stage.ensures.settled c.open_gate.ensures.stop
+    (c.stage.ensures.stop has) c.in_ok-stage.ensures.staged c.stage.ensures.outside c.in_ok-stage.ensures.settled c.open_gate.ensures.stop
 
 pub returns-clause-added : goal.returns-clause-added
 returns-clause-added g c = λ told k is.
@@ -36,7 +36,7 @@ returns-clause-added g c = λ told k is.
     let size : 5 + length x ≡ length c.stage.new.frame - 1 = omega (arith, c.stage.auto.frame, c.requires.frame, length-payload_in c.args.frame.now c.requires.frame) in
     let both = appended log k x (length c.stage.new.frame - 1) (reads (g.H.Host.view c.args.host.now)) (reads (g.H.Host.view c.stage.new.host))
     (reads (g.H.Host.view c.open_gate.new.host)) size
-    (c.in_ok-stage.ensures.outside told) (c.in_ok-open_gate.ensures.outside told) is (c.in_ok-stage.ensures.staged told k)
+    (c.stage.ensures.outside told) (c.open_gate.ensures.outside told) is (c.in_ok-stage.ensures.staged told k)
     (c.in_ok-open_gate.ensures.opened told k x) in
     record { reach = both.0; is = both.1 }
 
@@ -52,6 +52,6 @@ returns-clause-images g c = λ k has image may.
     (g.H.Host.view c.args.host.now) (g.H.Host.view c.open_gate.new.host)
     (g.met.H.Host.lawful c.args.host.now) (g.met.H.Host.lawful c.open_gate.new.host) has
     (λ told is. appended log k x n (reads (g.H.Host.view c.args.host.now)) (reads (g.H.Host.view c.stage.new.host)) (reads (g.H.Host.view c.open_gate.new.host)) size
-    (c.in_ok-stage.ensures.outside told) (c.in_ok-open_gate.ensures.outside told) is (c.in_ok-stage.ensures.staged told k)
+    (c.stage.ensures.outside told) (c.open_gate.ensures.outside told) is (c.in_ok-stage.ensures.staged told k)
     (c.in_ok-open_gate.ensures.opened told k x)) c.in_ok-open_gate.ensures.settled image may in
     record { reach = both.0; is = both.1 }

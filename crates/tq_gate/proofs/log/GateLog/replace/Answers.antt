@@ -18,13 +18,15 @@ pub returns-in_err-choose_other-clause-stop : goal.returns-in_err-choose_other-c
 returns-in_err-choose_other-clause-stop g c = λ has.
     replaces c.args.self.now c.args.base.now (g.H.Host.view c.args.host.now) (g.H.Host.view c.fill_other.new.host) (g.H.Host.view c.choose_other.new.host)
     (g.met.H.Host.lawful c.args.host.now) (g.met.H.Host.lawful c.fill_other.new.host) has
-    (c.fill_other.ensures.stop has) c.in_ok-fill_other.ensures.filled c.in_ok-fill_other.ensures.outside c.in_ok-fill_other.ensures.settled c.choose_other.ensures.stop
+    (c.fill_other.ensures.stop has) c.in_ok-fill_other.ensures.filled c.fill_other.ensures.outside c.in_ok-fill_other.ensures.settled
+    c.choose_other.ensures.stop
 
 pub returns-clause-stop : goal.returns-clause-stop
 returns-clause-stop g c = λ has.
     replaces c.args.self.now c.args.base.now (g.H.Host.view c.args.host.now) (g.H.Host.view c.fill_other.new.host) (g.H.Host.view c.choose_other.new.host)
     (g.met.H.Host.lawful c.args.host.now) (g.met.H.Host.lawful c.fill_other.new.host) has
-    (c.fill_other.ensures.stop has) c.in_ok-fill_other.ensures.filled c.in_ok-fill_other.ensures.outside c.in_ok-fill_other.ensures.settled c.choose_other.ensures.stop
+    (c.fill_other.ensures.stop has) c.in_ok-fill_other.ensures.filled c.fill_other.ensures.outside c.in_ok-fill_other.ensures.settled
+    c.choose_other.ensures.stop
 
 pub returns-clause-replaced : goal.returns-clause-replaced
 returns-clause-replaced g c = λ told k is.
@@ -32,7 +34,7 @@ returns-clause-replaced g c = λ told k is.
     let reads = λ (v : View). v.reads log.layout.dev in
     let both = replaced_read log k c.args.base.now c.other_area-self.result (reads (g.H.Host.view c.args.host.now))
     (reads (g.H.Host.view c.fill_other.new.host)) (reads (g.H.Host.view c.choose_other.new.host)) c.other_area-self.ensures
-    (c.in_ok-fill_other.ensures.outside told) (c.in_ok-choose_other.ensures.outside told) is (c.in_ok-fill_other.ensures.filled told k)
+    (c.fill_other.ensures.outside told) (c.choose_other.ensures.outside told) is (c.in_ok-fill_other.ensures.filled told k)
     (c.in_ok-choose_other.ensures.chosen told k c.args.base.now) in
     record { reach = both.0; is = both.1 }
 
@@ -46,6 +48,6 @@ returns-clause-images g c = λ k has image may.
     (g.H.Host.view c.args.host.now) (g.H.Host.view c.choose_other.new.host)
     (g.met.H.Host.lawful c.args.host.now) (g.met.H.Host.lawful c.choose_other.new.host) has
     (λ told is. replaced_read log k base area (reads (g.H.Host.view c.args.host.now)) (reads (g.H.Host.view c.fill_other.new.host)) (reads (g.H.Host.view c.choose_other.new.host)) c.other_area-self.ensures
-    (c.in_ok-fill_other.ensures.outside told) (c.in_ok-choose_other.ensures.outside told) is (c.in_ok-fill_other.ensures.filled told k)
+    (c.fill_other.ensures.outside told) (c.choose_other.ensures.outside told) is (c.in_ok-fill_other.ensures.filled told k)
     (c.in_ok-choose_other.ensures.chosen told k base)) c.in_ok-choose_other.ensures.settled image may in
     record { reach = both.0; is = both.1 }

@@ -1,4 +1,5 @@
 use Rattle.std.proofs.Common.{◌≡◌, ℕ, List, length, sym, ap, ◌∙◌, subst, arith}
+use Rattle.tq_host.specs.View.{View}
 use Rattle.tq_extent.specs.Bytes.{owned_bytes, OnBytes}
 use Rattle.tq_pages.specs.Store.{Store, size_of, chain_pages, HasAdded}
 use Rattle.tq_pages.specs.Content.{chain_bytes, HasChain, AreWritten, IsWritten, IsSameButPages, IsSameButFree}
@@ -25,22 +26,28 @@ write_chain-requires-clause-size g c =
     let few = is.few in
     omega (arith, c.requires.room)
 
+-- what the write of a chain leaves of what is read
+framed : (s new here : Store) (first size : ℕ) (next : List ℕ) (a b : View) → HasAdded s first size new → next ≡ here.next → here ≡ new
+    → OnBytes here.clusters (IsSameButPages next first (chain_pages size)) (a.reads here.dev) (b.reads here.dev)
+    → IsSameButFree s (a.reads s.dev) (b.reads s.dev)
+framed s new here first size next a b added slice is step =
+    let whole = subst (λ (l : List ℕ). OnBytes here.clusters (IsSameButPages l first (chain_pages size)) (a.reads here.dev) (b.reads here.dev)) slice step in
+    let closed = subst (λ (x : Store). OnBytes x.clusters (IsSameButPages x.next first (chain_pages size)) (a.reads x.dev) (b.reads x.dev)) is whole in
+    subst (λ d. IsSameButFree s (a.reads d) (b.reads d)) added.pages.dev (write_frame s new first size added (a.reads new.dev) (b.reads new.dev) closed)
+
+pub returns-in_err-write_chain-clause-outside : goal.returns-in_err-write_chain-clause-outside
+returns-in_err-write_chain-clause-outside g c = λ told.
+    let i = c.self.inside in
+    framed c.args.self.now c.take_chain-first.new.self (record { dev = i.dev; clusters = i.map; free = i.free; next = i.next.items; sizes = i.sizes.items })
+    c.take_chain-first.result (length c.args.bytes.now) _ (g.H.Host.view c.args.host.now) (g.H.Host.view c.write_chain.new.host)
+    c.take_chain-first.ensures c.as_slice-next.ensures.value c.self.view_is (c.write_chain.ensures.outside told)
+
 pub returns-clause-outside : goal.returns-clause-outside
 returns-clause-outside g c = λ told.
     let i = c.self.inside in
-    let here : Store = record { dev = i.dev; clusters = i.map; free = i.free; next = i.next.items; sizes = i.sizes.items } in
-    let s = c.args.self.now in
-    let first = c.take_chain-first.result in
-    let n = chain_pages (length c.args.bytes.now) in
-    let old = g.H.Host.view c.args.host.now in
-    let new = g.H.Host.view c.write_chain.new.host in
-    let added = c.take_chain-first.ensures in
-    let step = subst (λ (l : List ℕ). OnBytes i.map (IsSameButPages l first n) (old.reads i.dev) (new.reads i.dev)) c.as_slice-next.ensures.value
-    (c.in_ok-write_chain.ensures.outside told) in
-    let closed = subst (λ (x : Store). OnBytes x.clusters (IsSameButPages x.next first n) (old.reads x.dev) (new.reads x.dev)) c.self.view_is step in
-    subst (λ d. IsSameButFree s (old.reads d) (new.reads d)) added.pages.dev
-    (write_frame s c.take_chain-first.new.self first (length c.args.bytes.now) added
-    (old.reads c.take_chain-first.new.self.dev) (new.reads c.take_chain-first.new.self.dev) closed)
+    framed c.args.self.now c.take_chain-first.new.self (record { dev = i.dev; clusters = i.map; free = i.free; next = i.next.items; sizes = i.sizes.items })
+    c.take_chain-first.result (length c.args.bytes.now) _ (g.H.Host.view c.args.host.now) (g.H.Host.view c.write_chain.new.host)
+    c.take_chain-first.ensures c.as_slice-next.ensures.value c.self.view_is (c.write_chain.ensures.outside told)
 
 pub returns-clause-held : goal.returns-clause-held
 returns-clause-held g c = λ told.

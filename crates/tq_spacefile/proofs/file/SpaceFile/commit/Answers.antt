@@ -100,11 +100,10 @@ returns-clause-done g c =
       fits = has_room f plan is _ c.in_ok-frame.ensures.fits (is.size ∙ sym (ap length spelt_there.spells));
       images = λ epoch ready.
           logged_files f _ refl c.append.ensures.layout r payload spells held logged epoch before after (g.met.H.Host.lawful c.args.host.now) (g.met.H.Host.lawful c.append.new.host) c.in_ok-append.ensures.settled
-          (λ told at. logged_read f _ refl c.append.ensures.layout r payload spells held logged epoch before after at.1 (c.in_ok-append.ensures.outside told) (c.in_ok-append.ensures.added told) at.0)
+          (λ told at. logged_read f _ refl c.append.ensures.layout r payload spells held logged epoch before after at.1 (c.append.ensures.outside told) (c.in_ok-append.ensures.added told) at.0)
           (λ image may. ready_for f plan is epoch image (ready image may));
       read = λ told epoch ready.
-          logged_read f _ refl c.append.ensures.layout r payload spells held logged epoch before after (is.follows epoch ready.1) (c.in_ok-append.ensures.outside told) (c.in_ok-append.ensures.added told) ready.0;
-      outside = λ told. subst (λ n. IsSameButSpace (clusters_in f) (before.reads n) (after.reads n)) (own_dev f) (space_frame f _ _ (c.in_ok-append.ensures.outside told));
+          logged_read f _ refl c.append.ensures.layout r payload spells held logged epoch before after (is.follows epoch ready.1) (c.append.ensures.outside told) (c.in_ok-append.ensures.added told) ready.0;
       rest = subst (λ n. KeepsRest n before after) (own_dev f) c.append.ensures.rest;
       count = c.in_ok-append.ensures.cause.ok;
     }
@@ -120,3 +119,17 @@ returns-clause-stop g c = λ epoch ready.
     leaves_done f plan is epoch before after
     (stops f epoch is.r (payload_in c.deref_mut.result.now) before after (g.met.H.Host.lawful c.args.host.now) spells (λ image may. ready_for f plan is epoch image (ready image may))
     (c.append.ensures.stop (have_log f epoch before (λ image may. (ready image may).0))))
+
+pub returns-in_err-append-clause-outside : goal.returns-in_err-append-clause-outside
+returns-in_err-append-clause-outside g c = λ told.
+    let f = c.args.self.now in
+    let before = g.H.Host.view c.args.host.now in
+    let after = g.H.Host.view c.append.new.host in
+    subst (λ n. IsSameButSpace (clusters_in f) (before.reads n) (after.reads n)) (own_dev f) (space_frame f _ _ (c.append.ensures.outside told))
+
+pub returns-clause-outside : goal.returns-clause-outside
+returns-clause-outside g c = λ told.
+    let f = c.args.self.now in
+    let before = g.H.Host.view c.args.host.now in
+    let after = g.H.Host.view c.append.new.host in
+    subst (λ n. IsSameButSpace (clusters_in f) (before.reads n) (after.reads n)) (own_dev f) (space_frame f _ _ (c.append.ensures.outside told))

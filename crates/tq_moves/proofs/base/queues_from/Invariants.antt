@@ -1,0 +1,7 @@
+use Rattle.std.proofs.Common.{◌≡◌}
+use Rattle.tq_slots.specs.BaseForm.{slots_from}
+use Rattle.tq_slots.specs.RecordForm.{queue_slot}
+use Rattle.tq_moves.proofs.base.queues_from.Given as goal
+
+abbrev pub invariant-loop-i : goal.invariant-loop-i
+invariant-loop-i l = l.slots.items ≡ slots_from queue_slot 512 l.i l.at l.bytes

@@ -1,0 +1,21 @@
+use Rattle.std.proofs.Common.{[], sym, ◌∙◌, arith}
+use Rattle.std.proofs.lemmas.List.{take_all}
+use Rattle.tq_slots.specs.RecordForm.{branch_fields}
+use Rattle.tq_moves.proofs.ByteLemmas.{fields_behind}
+use Rattle.tq_moves.proofs.slots.branch_bytes.Goals as goal
+
+pub returns : goal.returns
+returns c =
+    sym (take_all c.put_zeros-end.result c.put_zeros-end.new.into (omega arith))
+    ∙ rw (
+      c.put_zeros-end.ensures.front,
+      c.put-at-2.ensures.front,
+      c.put-at.ensures.front,
+      c.put_number-at-2.ensures.front,
+      c.put_number-at.ensures.front,
+      c.put_byte-at-4.ensures.front,
+      c.put_byte-at-3.ensures.front,
+      c.put_byte-at-2.ensures.front,
+      c.put_byte-at.ensures.front,
+    )
+    (fields_behind [] (branch_fields c.args.b.now))

@@ -1,0 +1,30 @@
+use Rattle.std.proofs.Common.{[], sym, ◌∙◌, arith}
+use Rattle.std.proofs.lemmas.List.{take_all}
+use Rattle.tq_slots.specs.RecordForm.{message_fields}
+use Rattle.tq_moves.proofs.ByteLemmas.{fields_behind}
+use Rattle.tq_moves.proofs.slots.message_bytes.Goals as goal
+
+pub returns : goal.returns
+returns c =
+    sym (take_all c.put_number-end.result c.put_number-end.new.into (omega arith))
+    ∙ rw (
+      c.put_number-end.ensures.front,
+      c.put_number-at-5.ensures.front,
+      c.put_long-at-4.ensures.front,
+      c.put_long-at-3.ensures.front,
+      c.put_long-at-2.ensures.front,
+      c.put_long-at.ensures.front,
+      c.put_number-at-4.ensures.front,
+      c.put_number-at-3.ensures.front,
+      c.put_number-at-2.ensures.front,
+      c.put_number-at.ensures.front,
+      c.put_byte-at-8.ensures.front,
+      c.put_byte-at-7.ensures.front,
+      c.put_byte-at-6.ensures.front,
+      c.put_byte-at-5.ensures.front,
+      c.put_byte-at-4.ensures.front,
+      c.put_byte-at-3.ensures.front,
+      c.put_byte-at-2.ensures.front,
+      c.put_byte-at.ensures.front,
+    )
+    (fields_behind [] (message_fields c.args.m.now))

@@ -1,0 +1,9 @@
+pub mod Page
+pub mod Place
+pub mod Faults
+pub mod Stored
+pub mod New
+pub mod Sound
+pub mod SlotReading
+pub mod Reading
+pub mod Filling
