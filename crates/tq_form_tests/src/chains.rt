@@ -63,7 +63,11 @@ fn written(store: &mut PageStore, host: &mut MemHost, bytes: &[u8]) -> Result<u3
     if bytes.is_empty() || (bytes.len() as u64 + 1015) / 1016 > u64::from(store.free_count()) {
         return Err(Fail::from("there is no room"));
     }
-    let first = store.write(host, bytes).ok().ok_or("the device writes")?;
+    let first = store.take(bytes.len() as u32);
+    store
+        .put(host, first, bytes)
+        .ok()
+        .ok_or("the device writes")?;
     Ok(first)
 }
 

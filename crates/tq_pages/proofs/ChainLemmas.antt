@@ -1,7 +1,7 @@
 -- Pages of a chain on their device: runs of them, and what a write of a run leaves.
-use Rattle.std.proofs.Common.{◌≡◌, ◌⊎◌, inl, inr, ⊎_elim, ◌<◌, ◌≤◌, ◌+◌, ◌-◌, ◌*◌, ◌/◌, ℕ, zero, suc, Bool, true, false, if◌then◌else◌, List, length, get_or, take, drop, map, min, refl, sym, ap, ◌∙◌, arith}
-use Rattle.std.specs.Prelude.{nat_lt}
-use Rattle.std.proofs.lemmas.Bool.{cases_lt, lt-ltb, le-ltb}
+use Rattle.std.proofs.Common.{◌≡◌, ◌≢◌, ◌⊎◌, inl, inr, ⊎_elim, ◌<◌, ◌≤◌, ◌+◌, ◌-◌, ◌*◌, ◌/◌, ℕ, zero, suc, Bool, true, false, if◌then◌else◌, List, length, get_or, take, drop, map, min, refl, sym, ap, ◌∙◌, arith}
+use Rattle.std.specs.Prelude.{◌==◌, nat_lt}
+use Rattle.std.proofs.lemmas.Bool.{cases_eq, cases_lt, eq-eqb, ne_eqb, lt-ltb, le-ltb}
 use Rattle.std.proofs.lemmas.List.{length-take, length-drop, length-map, get_or-map, ext_get_or, take-take, take_all, drop-take, drop-drop}
 use Rattle.tq_field.specs.Places.{run_at}
 use Rattle.tq_host.specs.View.{View}
@@ -38,6 +38,50 @@ if-true false x y is = absurd (cc)
 pub if-false : (b : Bool) (x y : ℕ) → b ≡ false → (if b then x else y) ≡ y
 if-false true x y is = absurd (cc)
 if-false false x y is = refl
+
+-- ---- numbers that differ
+
+-- the numbers with the last one in the place of this one
+abbrev without : ℕ → ℕ → (ℕ → ℕ) → ℕ → ℕ
+without n top f k = if f k == top then f n else f k
+
+without_top : (n top : ℕ) (f : ℕ → ℕ) (k : ℕ) → f k ≡ top → without n top f k ≡ f n
+without_top n top f k is = if-true (f k == top) (f n) (f k) (eq-eqb (f k) top is)
+
+without_other : (n top : ℕ) (f : ℕ → ℕ) (k : ℕ) → f k ≢ top → without n top f k ≡ f k
+without_other n top f k other = if-false (f k == top) (f n) (f k) (ne_eqb (f k) top other)
+
+-- So many numbers that differ are no more than the numbers below their bound.
+pub no_more : (m n : ℕ) (f : ℕ → ℕ) → ((k : ℕ) → k < n → f k < m) → ((j k : ℕ) → j < n → k < n → f j ≡ f k → j ≡ k) → n ≤ m
+no_more m zero f below apart = omega arith
+no_more zero (suc n) f below apart = let none = below 0 (omega arith) in absurd (omega arith)
+no_more (suc m) (suc n) f below apart =
+    let rest = no_more m n (without n m f)
+    (λ k lt. elim (cases_eq (f k) m) [
+      | inl top ↦
+          let last = below n (omega arith) in
+          let other : f n ≢ m = λ e. (let same = apart k n (omega arith) (omega arith) (top ∙ sym e) in omega arith) in
+          let is = without_top n m f k top in
+          omega (arith, other)
+      | inr other ↦ let own = below k (omega arith) in let is = without_other n m f k other in omega (arith, other)
+    ])
+    (λ j k lt_j lt_k same. elim (cases_eq (f j) m) [
+      | inl a ↦ elim (cases_eq (f k) m) [
+        | inl b ↦ apart j k (omega arith) (omega arith) (a ∙ sym b)
+        | inr b ↦
+            let e = apart n k (omega arith) (omega arith) (sym (without_top n m f j a) ∙ same ∙ without_other n m f k b) in
+            absurd (omega arith)
+      ]
+      | inr a ↦ elim (cases_eq (f k) m) [
+        | inl b ↦
+            let e = apart j n (omega arith) (omega arith) (sym (without_other n m f j a) ∙ same ∙ without_top n m f k b) in
+            absurd (omega arith)
+        | inr b ↦ apart j k (omega arith) (omega arith) (sym (without_other n m f j a) ∙ same ∙ without_other n m f k b)
+      ]
+    ]) in
+    omega arith
+
+-- ---- a part of the bytes
 
 -- the bytes of a page in a part of the bytes
 pub part_run : (at n k : ℕ) (bytes : List ℕ) → at ≤ length bytes → n ≡ min (length bytes - at) (1016 * k) → (j : ℕ) → j < k

@@ -1,18 +1,19 @@
 -- The numbers on the pages of chains: those that stay, and those that were written.
-use Rattle.std.proofs.Common.{◌≡◌, ◌≢◌, inl, inr, ◌<◌, ◌≤◌, ◌+◌, ◌-◌, ◌*◌, ◌/◌, ◌^◌, ℕ, true, false, List, [], ◌∷◌, ◌++◌, length, get_or, drop, replicate, min, refl, sym, ap, ◌∙◌, arith}
+use Rattle.std.proofs.Common.{◌≡◌, ◌≢◌, inl, inr, ◌<◌, ◌≤◌, ◌+◌, ◌-◌, ◌*◌, ◌/◌, ◌^◌, ℕ, List, [], ◌∷◌, ◌++◌, length, get_or, drop, replicate, min, refl, sym, ap, ◌∙◌, arith}
 use Rattle.std.specs.Prelude.{nat_lt, if◌then◌else◌}
 use Rattle.std.proofs.lemmas.Bool.{cases_lt, lt-ltb, le-ltb}
-use Rattle.std.proofs.lemmas.List.{length-take, length-drop, get_or_past, ext_get_or}
+use Rattle.std.proofs.lemmas.List.{length-take, length-drop, ext_get_or}
 use Rattle.tq_field.specs.Digits.{digits, number_of}
 use Rattle.tq_field.specs.Places.{run_at, number_at}
 use Rattle.tq_field.proofs.Numbers.{length-digits}
 use Rattle.tq_field.proofs.Runs.{get_or-run_at, number_at-here}
 use Rattle.tq_extent.specs.Bytes.{byte_count}
-use Rattle.tq_pages.specs.Store.{Store, is_free, size_of, count_of, page_of, chain_pages, IsStore, HasAdded}
-use Rattle.tq_pages.specs.Content.{payload_bytes, page_form, used_after, number_behind, HasChain, IsWritten, IsSameInUse}
+use Rattle.tq_pages.specs.Store.{Store, size_of, count_of, page_of, chain_pages, IsStore, HasAdded}
+use Rattle.tq_pages.specs.Content.{payload_bytes, page_form, used_after, number_behind, HasChain, IsWritten, IsSameInUse, IsSameButPages}
 use Rattle.tq_pages.proofs.PageLemmas.{length-page_form}
 use Rattle.tq_pages.proofs.ChainLemmas.{if-true, if-false}
 use Rattle.tq_pages.proofs.ContentLemmas.{number_read}
+use Rattle.tq_pages.proofs.KeptLemmas.{IsSameChain, free_beside, chain_beside}
 
 number_same : (at w : ℕ) (a b : List ℕ) → length b ≡ length a → ((i : ℕ) → i < w → get_or b (at + i) 0 ≡ get_or a (at + i) 0)
     → number_at at w b ≡ number_at at w a
@@ -25,21 +26,30 @@ number_same at w a b size same =
     let below : i < w = omega arith in
     get_or-run_at at w b i 0 below ∙ same i below ∙ sym (get_or-run_at at w a i 0 below)))
 
--- what is written on free pages leaves the numbers of a chain
-pub numbers_kept : (s : Store) (g : ℕ) (a b : List ℕ) → IsStore s → IsSameInUse s a b → HasChain s g a → HasChain s g b
-numbers_kept s g a b is same has =
+-- what leaves the pages of a chain leaves its numbers
+same_numbers : (s : Store) (g : ℕ) (a b : List ℕ) → length b ≡ length a → IsSameChain s g a b → HasChain s g a → HasChain s g b
+same_numbers s g a b size same has =
     record {
       next = λ k lt.
           let p = page_of s g k in
-          number_same (1024 * p) 4 a b same.size (λ i below.
+          number_same (1024 * p) 4 a b size (λ i below.
           let page : (1024 * p + i) / 1024 ≡ p = omega arith in
-          same.outside (1024 * p + i) (ap (is_free s) page ∙ is.used g k lt)) ∙ has.next k lt;
+          same k lt (1024 * p + i) page) ∙ has.next k lt;
       used = λ k lt.
           let p = page_of s g k in
-          number_same (1024 * p + 4) 2 a b same.size (λ i below.
+          number_same (1024 * p + 4) 2 a b size (λ i below.
           let page : (1024 * p + 4 + i) / 1024 ≡ p = omega arith in
-          same.outside (1024 * p + 4 + i) (ap (is_free s) page ∙ is.used g k lt)) ∙ has.used k lt;
+          same k lt (1024 * p + 4 + i) page) ∙ has.used k lt;
     }
+
+-- what is written on free pages leaves the numbers of a chain
+pub numbers_kept : (s : Store) (g : ℕ) (a b : List ℕ) → IsStore s → IsSameInUse s a b → HasChain s g a → HasChain s g b
+numbers_kept s g a b is same has = same_numbers s g a b same.size (free_beside s g a b is same) has
+
+-- so does what is written on the pages of another one
+pub other_numbers : (s : Store) (first g : ℕ) (a b : List ℕ) → IsStore s → g ≢ first → IsSameButPages s.next first (count_of s first) a b
+    → HasChain s g a → HasChain s g b
+other_numbers s first g a b is other same has = same_numbers s g a b same.size (chain_beside s first g a b is other same) has
 
 -- a chain of as many bytes on the same pages
 chain_same : (old new : Store) (g : ℕ) (bytes : List ℕ) → size_of new g ≡ size_of old g
@@ -82,26 +92,18 @@ others_left old new first size g bytes added has = elim (cases_lt 0 (size_of new
       record { next = λ k lt. absurd (omega arith); used = λ k lt. absurd (omega arith) }
 ]
 
--- a page that is free is one of the store
-free_within : (s : Store) (page : ℕ) → is_free s page ≡ true → page < length s.free
-free_within s page free = elim (cases_lt page (length s.free)) [
-  | inl below ↦ below
-  | inr past ↦ let none = get_or_past s.free page false past in absurd (cc)
-]
-
--- a new chain that was written whole says its numbers
-pub written_numbers : (old new : Store) (first : ℕ) (written owned : List ℕ) → IsStore old → HasAdded old first (length written) new
-    → length owned ≡ byte_count old.clusters → IsWritten new first written owned → HasChain new first owned
-written_numbers old new first written owned is added long whole =
-    let size : size_of new first ≡ length written = added.is in
-    let count : count_of new first ≡ chain_pages (length written) = ap chain_pages size in
+-- a chain that was written whole says its numbers
+pub written_numbers : (s : Store) (first : ℕ) (written owned : List ℕ) → IsStore s → size_of s first ≡ length written
+    → length owned ≡ byte_count s.clusters → IsWritten s first written owned → HasChain s first owned
+written_numbers s first written owned is size long whole =
+    let count : count_of s first ≡ chain_pages (length written) = ap chain_pages size in
     let mapped = is.mapped in
     let few = is.few in
     record {
       next = λ k lt.
-          let p = page_of new first k in
-          let below = free_within old p (added.pages.free k (omega arith)) in
-          let nb = number_behind new.next first (count_of new first) k in
+          let p = page_of s first k in
+          let below = is.within first k lt in
+          let nb = number_behind s.next first (count_of s first) k in
           let run = run_at (payload_bytes * k) payload_bytes written in
           let run_size = length-take payload_bytes (drop (payload_bytes * k) written) in
           let form_size = length-page_form nb run (omega arith) in
@@ -111,9 +113,9 @@ written_numbers old new first written owned is added long whole =
           ap (λ at. number_at at 4 owned) (sym place) ∙ sym (number_read (1024 * p) 0 4 (page_form nb run) owned (omega arith) (omega arith) (whole k lt))
           ∙ number_at-here 0 4 nb [] rest refl fits;
       used = λ k lt.
-          let p = page_of new first k in
-          let below = free_within old p (added.pages.free k (omega arith)) in
-          let nb = number_behind new.next first (count_of new first) k in
+          let p = page_of s first k in
+          let below = is.within first k lt in
+          let nb = number_behind s.next first (count_of s first) k in
           let run = run_at (payload_bytes * k) payload_bytes written in
           let run_size = length-take payload_bytes (drop (payload_bytes * k) written) in
           let rest_size = length-drop (payload_bytes * k) written in
@@ -122,21 +124,19 @@ written_numbers old new first written owned is added long whole =
           let fits : length run < 256 ^ 2 = omega arith in
           sym (number_read (1024 * p) 4 2 (page_form nb run) owned (omega arith) (omega arith) (whole k lt))
           ∙ number_at-here 4 2 (length run) (digits 4 nb) rest (length-digits 4 nb) fits
-          ∙ (let e : length run ≡ min 1016 (size_of new first - 1016 * k) = omega arith in e);
+          ∙ (let e : length run ≡ min 1016 (size_of s first - 1016 * k) = omega arith in e);
     }
   where
-    behind-fits : (k : ℕ) → number_behind new.next first (count_of new first) k < 256 ^ 4
+    behind-fits : (k : ℕ) → number_behind s.next first (count_of s first) k < 256 ^ 4
     behind-fits k =
-        let size : size_of new first ≡ length written = added.is in
-        let count : count_of new first ≡ chain_pages (length written) = ap chain_pages size in
         let mapped = is.mapped in
         let few = is.few in
-        elim (cases_lt (k + 1) (count_of new first)) [
+        elim (cases_lt (k + 1) (count_of s first)) [
           | inl inside ↦
-              let below = free_within old (page_of new first (k + 1)) (added.pages.free (k + 1) (omega arith)) in
-              let is_page = if-true (nat_lt (k + 1) (count_of new first)) (page_of new first (k + 1)) 0 (lt-ltb (k + 1) (count_of new first) inside) in
+              let below = is.within first (k + 1) inside in
+              let is_page = if-true (nat_lt (k + 1) (count_of s first)) (page_of s first (k + 1)) 0 (lt-ltb (k + 1) (count_of s first) inside) in
               omega arith
           | inr end ↦
-              let is_none = if-false (nat_lt (k + 1) (count_of new first)) (page_of new first (k + 1)) 0 (le-ltb (k + 1) (count_of new first) end) in
+              let is_none = if-false (nat_lt (k + 1) (count_of s first)) (page_of s first (k + 1)) 0 (le-ltb (k + 1) (count_of s first) end) in
               omega arith
         ]

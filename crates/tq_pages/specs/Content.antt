@@ -90,6 +90,10 @@ pub record IsSameButPages (next : List ℕ) (first count : ℕ) (old new : List 
   pub size : length new ≡ length old
   pub outside : (i : ℕ) → ((k : ℕ) → k < count → page_behind next first k ≡ i / page_bytes → ⊥) → get_or new i 0 ≡ get_or old i 0
 
+-- an image is the same outside the pages of that chain
+abbrev pub IsSameButChain : Store → ℕ → List ℕ → List ℕ → Type 0
+IsSameButChain s first old new = OnBytes s.clusters (IsSameButPages s.next first (count_of s first)) old new
+
 -- so many pages from this one on lie on these clusters, and differ
 pub record ArePages (clusters next : List ℕ) (first count : ℕ) : Type 0 where
   pub few : length next < 4294967296

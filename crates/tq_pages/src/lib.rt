@@ -2,8 +2,9 @@
 //!
 //! The layer above uses `PageStore`, which keeps in memory which pages are free, and the pages and
 //! the length of each chain. `specs/Store` says what a store holds, `specs/Content` what an image
-//! has of it. The laws are lemmas: in `proofs/StoreLemmas` that chains share no page, and in
-//! `proofs/ContentLemmas` that a call which writes on free pages alone leaves the bytes of chains.
+//! has of it. `take` and `release` change memory alone, and `put` the device alone. The laws are
+//! lemmas: in `proofs/StoreLemmas` that chains share no page, and in `proofs/KeptLemmas` that a call
+//! which writes on free pages, or on those of one chain, leaves the bytes of the others.
 #![tactic(auto)]
 
 mod adopting;

@@ -20,7 +20,7 @@ pub(crate) const RUN: usize = 65;
 /// with its pages and the number of its bytes.
 ///
 /// All memory is taken at `new` and `extend`. A page is named by its number among its owner's. After
-/// a call that failed for the device the store is spent.
+/// an `adopt` that failed for the device the store is spent.
 #[derive(Drop)]
 pub struct PageStore {
     pub(crate) dev: u8,
@@ -184,11 +184,13 @@ impl PageStore {
         self.sizes[first as usize] = size;
     }
 
-    /// Takes the pages for so many bytes, and makes them a chain.
-    pub(crate) fn take_chain(&mut self, size: u32) -> u32
+    /// Takes the pages for a chain of `size` bytes, and gives its first page. The bytes are not none,
+    /// and the pages for them are free. Takes no memory, and calls no device: what stands on the pages
+    /// is not the chain's before `put`.
+    pub fn take(&mut self, size: u32) -> u32
         requires some { 1 ≤ size }
         requires room { stores.chain_pages size ≤ free_pages self.old }
-        ensures { HasAdded self.old result size self.new }
+        ensures added { HasAdded self.old result size self.new }
     {
         let count = chain_pages(size);
         let first = self.free.first();

@@ -1,13 +1,13 @@
 //! Chains that are written.
 
-ghost use Rattle.std.specs.Prelude.{true, ◌≡◌, ◌<◌, ◌≤◌, ◌+◌, ◌-◌, ◌*◌, ◌^◌, List, ℕ, length, get_or, if◌then◌else◌, IfOk, OnOk};
+ghost use Rattle.std.specs.Prelude.{true, ◌≡◌, ◌≢◌, ◌<◌, ◌≤◌, ◌+◌, ◌-◌, ◌*◌, ◌^◌, List, ℕ, length, get_or, if◌then◌else◌, OnOk};
 ghost use Rattle.tq_field.specs.Places.{run_at};
 ghost use Rattle.tq_host.specs.Calls.{HasCause, HasBytesAt, IsSameBut};
 ghost use Rattle.tq_host.specs.Within.{Within, KeepsRest};
 ghost use Rattle.tq_extent.specs.Bytes.{byte_count, owned_bytes, reaches, OnBytes, IsAny, AllReach};
 ghost use Rattle.tq_pages.specs.Store as stores;
-ghost use Rattle.tq_pages.specs.Store.{free_pages, size_of, page_behind, HasAdded};
-ghost use Rattle.tq_pages.specs.Content.{payload_bytes, page_form, run_number, chain_bytes, AreWritten, HasChain, IsWritten, IsSameButPages, IsSameButFree, ArePages};
+ghost use Rattle.tq_pages.specs.Store.{size_of, page_behind};
+ghost use Rattle.tq_pages.specs.Content.{payload_bytes, page_form, run_number, chain_bytes, AreWritten, HasChain, IsWritten, IsSameButPages, IsSameButChain, ArePages};
 
 use crate::PageStore;
 use crate::filling::{PAGE, PAYLOAD, fill_run};
@@ -17,54 +17,44 @@ use tq_extent::PageMap;
 use tq_host::{Device, Failed, Host};
 
 impl PageStore {
-    /// Writes these bytes as a chain on free pages, and gives its first page. The bytes are not none,
-    /// and the pages for them are free. Each page is written whole, with 0 behind its bytes, and pages
-    /// that follow one another are written at once. Nothing is durable before a sync. Takes no memory.
-    /// After `Device` the store is spent.
-    pub fn write<H: Host>(&mut self, host: &mut H, bytes: &[u8]) -> Result<u32, Device>
+    /// Writes these bytes on the pages of the chain that begins at this page, which has so many. Each
+    /// page is written whole, with 0 behind its bytes, and pages that follow one another are written at
+    /// once. Nothing is durable before a sync. Takes no memory. After `Device` the store is as it was,
+    /// and any of the chain's pages may have its new bytes.
+    pub fn put<H: Host>(&mut self, host: &mut H, first: u32, bytes: &[u8]) -> Result<(), Device>
         requires some { 1 ≤ length bytes.now }
-        requires room { stores.chain_pages (length bytes.now) ≤ free_pages self.old }
+        requires chain { size_of self.old first ≡ length bytes.now }
         requires reach { H.tells.reads → reaches self.old.clusters ((H.view host.old).reads self.old.dev) ≡ true }
-        ensures chain { IfOk result (λ first. HasAdded self.old first (length bytes.now) self.new) }
+        ensures store { self.new ≡ self.old }
 
-        // The pages are whole ones with these bytes; nothing is written but what was free, also where the call fails.
-        ensures written { IfOk result (λ first. H.tells.reads
+        // The pages are whole ones with these bytes; nothing is written but they, also where the call fails.
+        ensures written { OnOk result (H.tells.reads
             → IsWritten self.new first bytes.now (owned_bytes self.old.clusters ((H.view host.new).reads self.old.dev))) }
         ensures outside { H.tells.reads
-            → IsSameButFree self.old ((H.view host.old).reads self.old.dev) ((H.view host.new).reads self.old.dev) }
-        // So the chain has these bytes, and the others keep theirs.
-        ensures bytes { IfOk result (λ first. H.tells.reads
+            → IsSameButChain self.old first ((H.view host.old).reads self.old.dev) ((H.view host.new).reads self.old.dev) }
+        // So the chain has these bytes, and its pages say which page is behind each.
+        ensures bytes { OnOk result (H.tells.reads
             → chain_bytes self.new first (owned_bytes self.old.clusters ((H.view host.new).reads self.old.dev)) ≡ bytes.now) }
-        ensures others { OnOk result (H.tells.reads → (g : ℕ) → 1 ≤ size_of self.old g
-            → chain_bytes self.new g (owned_bytes self.old.clusters ((H.view host.new).reads self.old.dev))
-            ≡ chain_bytes self.old g (owned_bytes self.old.clusters ((H.view host.old).reads self.old.dev))) }
-
-        // So do their pages say the same numbers, and those of the new chain which page is behind each.
-        ensures held { IfOk result (λ first. H.tells.reads
+        ensures held { OnOk result (H.tells.reads
             → HasChain self.new first (owned_bytes self.old.clusters ((H.view host.new).reads self.old.dev))) }
-        ensures stay { OnOk result (H.tells.reads → (g : ℕ) → 1 ≤ size_of self.old g
-            → HasChain self.old g (owned_bytes self.old.clusters ((H.view host.old).reads self.old.dev))
-            → HasChain self.new g (owned_bytes self.old.clusters ((H.view host.new).reads self.old.dev))) }
 
-        // In each picture what was not free is that of one image of the start.
+        // The other chains keep their bytes, and their pages say the same numbers, also where the call fails.
+        ensures others { H.tells.reads → (g : ℕ) → g ≢ first → 1 ≤ size_of self.old g
+            → chain_bytes self.new g (owned_bytes self.old.clusters ((H.view host.new).reads self.old.dev))
+            ≡ chain_bytes self.old g (owned_bytes self.old.clusters ((H.view host.old).reads self.old.dev)) }
+        ensures stay { H.tells.reads → (g : ℕ) → g ≢ first → 1 ≤ size_of self.old g
+            → HasChain self.old g (owned_bytes self.old.clusters ((H.view host.old).reads self.old.dev))
+            → HasChain self.new g (owned_bytes self.old.clusters ((H.view host.new).reads self.old.dev)) }
+
+        // In each picture what is not on the chain's pages is that of one image of the start.
         ensures stop { AllReach self.old.dev self.old.clusters (H.view host.old)
-            → Within self.old.dev (IsSameButFree self.old) IsAny (H.view host.old) (H.view host.new) }
+            → Within self.old.dev (IsSameButChain self.old first) IsAny (H.view host.old) (H.view host.new) }
         ensures rest { KeepsRest self.old.dev (H.view host.old) (H.view host.new) }
         ensures cause { HasCause (H.view host.old).faults (H.view host.new).faults result }
     {
-        let _free = self.free_count();
-        let first = self.take_chain(bytes.len() as u32);
         let next = self.next.as_slice();
-        write_chain(
-            host,
-            self.dev,
-            &self.map,
-            next,
-            &mut self.buffer,
-            first,
-            bytes,
-        )?;
-        Ok(first)
+        let pages = &mut self.buffer;
+        Ok(write_chain(host, self.dev, &self.map, next, pages, first, bytes)?)
     }
 }
 

@@ -3,7 +3,7 @@ use Rattle.std.proofs.Common.{◌≡◌, ◌≢◌, ◌⊎◌, inl, inr, ◌<◌
 use Rattle.std.proofs.Common.{◌++◌, length, get_or, map, None, Some, sym, ap, ◌∙◌, arith}
 use Rattle.std.specs.Prelude.{◌==◌, nat_le, nat_lt, if◌then◌else◌, option_map}
 use Rattle.std.specs.Option.{option_and_then}
-use Rattle.std.proofs.lemmas.Bool.{cases_eq, cases_lt, lt-ltb, le-ltb, eq-eqb, ne_eqb, le-leb, and_from, or_left, or_right}
+use Rattle.std.proofs.lemmas.Bool.{cases_lt, lt-ltb, le-ltb, eq-eqb, ne_eqb, le-leb, and_from, or_left, or_right}
 use Rattle.std.proofs.lemmas.List.{length-map, get_or-map, ext_get_or, map-append}
 use Rattle.tq_field.specs.Places.{run_at}
 use Rattle.tq_field.proofs.Runs.{length-run_at, get_or-run_at}
@@ -15,52 +15,10 @@ use Rattle.tq_extent.proofs.BytesLemmas.{length-owned}
 use Rattle.tq_extent.proofs.ExtentLemmas.{length-numbers_from, get_or-numbers_from, numbers_from-append}
 use Rattle.tq_pages.specs.Store.{Store, IsStore, size_of, count_of, page_of}
 use Rattle.tq_pages.specs.Content.{HasChain, number_behind, payload_place, chain_bytes}
-use Rattle.tq_pages.proofs.ChainLemmas.{if-true, if-false}
+use Rattle.tq_pages.proofs.ChainLemmas.{if-true, if-false, no_more}
 use Rattle.tq_slots.specs.SpaceReading.{page_after, used_in_page, is_chain_page, chain_from, chain_in, joined, message_in, message_at}
 use Rattle.tq_slots.specs.SlotImages.{RawSlots}
 use Rattle.tq_store.specs.Stored.{HasStore, pages_in}
-
--- ---- numbers that differ
-
--- the numbers with the last one in the place of this one
-abbrev without : ℕ → ℕ → (ℕ → ℕ) → ℕ → ℕ
-without n top f k = if f k == top then f n else f k
-
-without_top : (n top : ℕ) (f : ℕ → ℕ) (k : ℕ) → f k ≡ top → without n top f k ≡ f n
-without_top n top f k is = if-true (f k == top) (f n) (f k) (eq-eqb (f k) top is)
-
-without_other : (n top : ℕ) (f : ℕ → ℕ) (k : ℕ) → f k ≢ top → without n top f k ≡ f k
-without_other n top f k other = if-false (f k == top) (f n) (f k) (ne_eqb (f k) top other)
-
--- So many numbers that differ are no more than the numbers below their bound.
-pub no_more : (m n : ℕ) (f : ℕ → ℕ) → ((k : ℕ) → k < n → f k < m) → ((j k : ℕ) → j < n → k < n → f j ≡ f k → j ≡ k) → n ≤ m
-no_more m zero f below apart = omega arith
-no_more zero (suc n) f below apart = let none = below 0 (omega arith) in absurd (omega arith)
-no_more (suc m) (suc n) f below apart =
-    let rest = no_more m n (without n m f)
-    (λ k lt. elim (cases_eq (f k) m) [
-      | inl top ↦
-          let last = below n (omega arith) in
-          let other : f n ≢ m = λ e. (let same = apart k n (omega arith) (omega arith) (top ∙ sym e) in omega arith) in
-          let is = without_top n m f k top in
-          omega (arith, other)
-      | inr other ↦ let own = below k (omega arith) in let is = without_other n m f k other in omega (arith, other)
-    ])
-    (λ j k lt_j lt_k same. elim (cases_eq (f j) m) [
-      | inl a ↦ elim (cases_eq (f k) m) [
-        | inl b ↦ apart j k (omega arith) (omega arith) (a ∙ sym b)
-        | inr b ↦
-            let e = apart n k (omega arith) (omega arith) (sym (without_top n m f j a) ∙ same ∙ without_other n m f k b) in
-            absurd (omega arith)
-      ]
-      | inr a ↦ elim (cases_eq (f k) m) [
-        | inl b ↦
-            let e = apart j n (omega arith) (omega arith) (sym (without_other n m f j a) ∙ same ∙ without_top n m f k b) in
-            absurd (omega arith)
-        | inr b ↦ apart j k (omega arith) (omega arith) (sym (without_other n m f j a) ∙ same ∙ without_other n m f k b)
-      ]
-    ]) in
-    omega arith
 
 -- ---- what makes a page one of a chain
 

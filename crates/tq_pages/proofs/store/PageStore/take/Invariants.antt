@@ -1,6 +1,6 @@
 use Rattle.std.proofs.Common.{◌≡◌, ◌<◌, true}
 use Rattle.tq_pages.specs.Store.{is_free, page_of, HasTaken, IsStore}
-use Rattle.tq_pages.proofs.store.PageStore.take_chain.Given as goal
+use Rattle.tq_pages.proofs.store.PageStore.take.Given as goal
 
 abbrev pub invariant-loop-k : goal.invariant-loop-k
 invariant-loop-k l = record {

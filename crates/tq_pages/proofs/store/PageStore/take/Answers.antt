@@ -2,7 +2,7 @@ use Rattle.std.proofs.Common.{◌≡◌, ◌<◌, ◌+◌, length, refl, sym, ap
 use Rattle.std.proofs.lemmas.Bool.{lt-ltb}
 use Rattle.tq_pages.specs.Store.{Store, is_free, page_of, chain_pages, AreLoose, HasTaken, HasAdded, IsStore}
 use Rattle.tq_pages.proofs.StoreLemmas.{store_taken, taken_none, taken_more, next_behind, loose_taken, added}
-use Rattle.tq_pages.proofs.store.PageStore.take_chain.Goals as goal
+use Rattle.tq_pages.proofs.store.PageStore.take.Goals as goal
 
 pub loop-k-init : goal.loop-k-init
 loop-k-init c =
@@ -56,4 +56,4 @@ returns c =
     let here = loose.within 0 (omega arith) in
     let sizes = inv.store.sizes_size in
     omega arith) in
-    subst (λ (x : Store). HasAdded s first size x) (sym c.set_size.ensures) (added s c.loop-k.self first size is taken inv.sizes c.requires.some within)
+    record { added = subst (λ (x : Store). HasAdded s first size x) (sym c.set_size.ensures) (added s c.loop-k.self first size is taken inv.sizes c.requires.some within) }
