@@ -1,7 +1,9 @@
 -- Numbers and zeros behind bytes.
-use Rattle.std.proofs.Common.{◌≡◌, ℕ, ◌+◌, ◌-◌, ◌/◌, ◌%◌, List, [], ◌∷◌, ◌++◌, length, refl, sym, ap, ◌∙◌, append_assoc, arith}
+use Rattle.std.proofs.Common.{◌≡◌, ℕ, ◌+◌, ◌-◌, ◌/◌, ◌%◌, ◌<◌, List, [], ◌∷◌, ◌++◌, length, take, get_or, refl, sym, ap, ◌∙◌, append_assoc, arith}
 use Rattle.std.proofs.Math.Nat.{zero-div}
-use Rattle.std.proofs.lemmas.List.{append-nil, length-append}
+use Rattle.std.specs.List.{flat_map}
+use Rattle.std.proofs.lemmas.List.{append-nil, length-append, take_more}
+use Rattle.std.proofs.lemmas.List.Concat.{flat_map-append, flat_map-cons}
 use Rattle.tq_field.specs.Digits.{digits}
 use Rattle.tq_field.specs.Places.{run_at}
 use Rattle.tq_field.proofs.Numbers.{length-digits, digits-one, digits-add, digits-mod}
@@ -40,3 +42,11 @@ pub fields_behind : (out : List ℕ) (fields : List Field) → with_fields out f
 unfolding fields_spelt
 fields_behind out [] = sym (append-nil out)
 fields_behind out (f ∷ fields) = fields_behind (out ++ field_bytes f) fields ∙ append_assoc out (field_bytes f) (fields_spelt fields)
+
+-- the items up to a place, and the one there
+pub one-spelt : {X : Type 0} (spell : X → List ℕ) (xs : List X) (i : ℕ) (d : X) → i < length xs
+    → flat_map spell (take (i + 1) xs) ≡ flat_map spell (take i xs) ++ spell (get_or xs i d)
+one-spelt spell xs i d lt =
+    let x = get_or xs i d in
+    ap (flat_map spell) (take_more xs i d lt) ∙ flat_map-append spell (take i xs) (x ∷ [])
+    ∙ ap (λ (last : List ℕ). flat_map spell (take i xs) ++ last) (flat_map-cons spell x [] ∙ append-nil (spell x))

@@ -1,10 +1,11 @@
 //! The base of a space: its slots one behind another.
 
-ghost use Rattle.std.specs.Prelude.{◌≡◌, ◌+◌, ◌*◌, ◌≤◌, ◌++◌, length, take, IfOk};
-ghost use Rattle.std.specs.List.{flat_map};
+ghost use Rattle.std.specs.Prelude.{◌≡◌, ◌+◌, ◌*◌, ◌≤◌, ◌++◌, true, length, take, IfOk};
+ghost use Rattle.std.specs.List.{flat_map, AllByRecursion};
 ghost use Rattle.tq_slots.specs.BaseForm as form;
-ghost use Rattle.tq_slots.specs.BaseForm.{base_length, base_spelt, branch_slot_spelt, message_slot_spelt, queue_slot_spelt, raw_slots, slots_from};
-ghost use Rattle.tq_slots.specs.RecordForm.{branch_slot, message_slot, queue_slot};
+ghost use Rattle.tq_slots.specs.BaseForm.{AreRawSlots, base_length, base_spelt, branch_slot_spelt, message_slot_spelt, queue_slot_spelt, raw_slots, slots_from};
+ghost use Rattle.tq_slots.specs.Fields.{AreFields};
+ghost use Rattle.tq_slots.specs.RecordForm.{branch_fields, branch_slot, message_fields, message_slot, queue_fields, queue_slot};
 ghost use Rattle.tq_slots.specs.SlotImages.{RawSlots};
 
 use crate::bytes::{put, put_zeros, run};
@@ -29,6 +30,7 @@ fn put_queues(into: &mut [u8], at: usize, queues: &[QueueSlot]) -> usize
     ensures place { result ≡ at + 512 * length queues.now }
     ensures front { take result into.new ≡ take at into.old ++ flat_map queue_slot_spelt queues.now }
     ensures size { length into.new ≡ length into.old }
+    ensures ranges { AllByRecursion (λ q. AreFields (queue_fields q)) queues.now }
 {
     let mut end = at;
     for queue in queues {
@@ -43,6 +45,7 @@ fn put_messages(into: &mut [u8], at: usize, messages: &[MessageSlot]) -> usize
     ensures place { result ≡ at + 64 * length messages.now }
     ensures front { take result into.new ≡ take at into.old ++ flat_map message_slot_spelt messages.now }
     ensures size { length into.new ≡ length into.old }
+    ensures ranges { AllByRecursion (λ m. AreFields (message_fields m)) messages.now }
 {
     let mut end = at;
     for message in messages {
@@ -57,6 +60,7 @@ fn put_branches(into: &mut [u8], at: usize, branches: &[BranchSlot]) -> usize
     ensures place { result ≡ at + 160 * length branches.now }
     ensures front { take result into.new ≡ take at into.old ++ flat_map branch_slot_spelt branches.now }
     ensures size { length into.new ≡ length into.old }
+    ensures ranges { AllByRecursion (λ b. AreFields (branch_fields b)) branches.now }
 {
     let mut end = at;
     for branch in branches {
@@ -66,6 +70,7 @@ fn put_branches(into: &mut [u8], at: usize, branches: &[BranchSlot]) -> usize
 }
 
 /// Spells the base of these slots into bytes of its length; it takes no memory. Each byte that says nothing is 0.
+/// The slots are read of it again, since their numbers are in their ranges, as those of each value of its type.
 pub fn spell_base(
     into: &mut [u8],
     queues: &[QueueSlot],
@@ -73,7 +78,11 @@ pub fn spell_base(
     branches: &[BranchSlot],
 )
     requires { length into.old ≡ base_length (length queues.now) (length messages.now) (length branches.now) }
-    ensures { into.new ≡ base_spelt (record { queues = queues.now; messages = messages.now; branches = branches.now }) }
+    ensures bytes { into.new ≡ base_spelt (record { queues = queues.now; messages = messages.now; branches = branches.now }) }
+    ensures mark { form.has_base_mark into.new ≡ true }
+    ensures read { raw_slots (length queues.now) (length messages.now) (length branches.now) into.new
+        ≡ record { queues = queues.now; messages = messages.now; branches = branches.now } }
+    ensures ranges { AreRawSlots (record { queues = queues.now; messages = messages.now; branches = branches.now }) }
 {
     let at = put(into, 0, MARK);
     let at = put_zeros(into, at, 60);

@@ -1,6 +1,6 @@
 //! Numbers at a place in bytes, and numbers behind bytes.
 
-ghost use Rattle.std.specs.Prelude.{◌≡◌, ◌+◌, ◌≤◌, ◌++◌, length, take, OnOk};
+ghost use Rattle.std.specs.Prelude.{◌≡◌, ◌+◌, ◌^◌, ◌≤◌, ◌<◌, ◌++◌, length, take, OnOk};
 ghost use Rattle.tq_field.specs.Digits.{digits};
 ghost use Rattle.tq_field.specs.Places.{number_at, run_at, with_number};
 ghost use Rattle.tq_slots.specs.MessageForm as form;
@@ -123,6 +123,7 @@ pub(crate) fn put_byte(into: &mut [u8], at: usize, n: u8) -> usize
     ensures place { result ≡ at + 1 }
     ensures front { take result into.new ≡ take at into.old ++ digits 1 n }
     ensures size { length into.new ≡ length into.old }
+    ensures range { n < 256 ^ 1 }
 {
     put(into, at, &[n])
 }
@@ -133,6 +134,7 @@ pub(crate) fn put_number(into: &mut [u8], at: usize, n: u32) -> usize
     ensures place { result ≡ at + 4 }
     ensures front { take result into.new ≡ take at into.old ++ digits 4 n }
     ensures size { length into.new ≡ length into.old }
+    ensures range { n < 256 ^ 4 }
 {
     let mut field = [0; 4];
     let _fits = put_u32(&mut field, 0, n);
@@ -145,6 +147,7 @@ pub(crate) fn put_long(into: &mut [u8], at: usize, n: u64) -> usize
     ensures place { result ≡ at + 8 }
     ensures front { take result into.new ≡ take at into.old ++ digits 8 n }
     ensures size { length into.new ≡ length into.old }
+    ensures range { n < 256 ^ 8 }
 {
     let mut field = [0; 8];
     let _fits = put_u64(&mut field, 0, n);

@@ -1,13 +1,12 @@
 //! A record that becomes bytes.
 
-ghost use Rattle.std.specs.Prelude.{◌≡◌, ◌<◌, ◌++◌, length, OnOk, IfOk};
+ghost use Rattle.std.specs.Prelude.{◌≡◌, ◌+◌, ◌*◌, ◌<◌, ◌++◌, length, OnOk, IfOk};
 ghost use Rattle.std.specs.List.{flat_map};
 ghost use Rattle.tq_field.specs.Digits.{digits};
 ghost use Rattle.tq_gate.specs.Frame.{IsFrame, payload_in};
-ghost use Rattle.tq_slots.specs.RecordForm.{AreSets, IsRecord, IsSpelling, record_view, spelt, slot_spelt, set_spelt, kind_number};
+ghost use Rattle.tq_slots.specs.RecordForm.{AreSets, IsRecord, IsSet, IsSpelling, record_view, spelt, set_spelt, kind_number};
 
 use crate::bytes::{push_byte, push_short, push_zeros};
-use crate::keys::key;
 use crate::slots::{branch_bytes, message_bytes, queue_bytes};
 use std::alloc::{AllocError, Global};
 use tq_gate::BEFORE_PAYLOAD;
@@ -28,40 +27,42 @@ fn kind_code(kind: RecKind) -> u8
 }
 
 /// Adds a tag and an index, as one number.
-fn push_key(out: &mut Vec<u8>, key: u32) -> Result<(), AllocError>
-    requires { key < 262144 }
-    ensures { OnOk result (out.new.items ≡ out.old.items ++ digits 3 key) }
+fn push_key(out: &mut Vec<u8>, tag: u8, index: u16) -> Result<(), AllocError>
+    ensures bytes { OnOk result (out.new.items ≡ out.old.items ++ digits 3 (65536 * tag + index)) }
+    ensures range { index < 65536 }
 {
-    push_byte(out, (key / 65536) as u8)?;
-    push_short(out, (key % 65536) as u16)?;
-    Ok(())
-}
-
-/// Adds the slot of a set.
-#[tactic(auto, unfolding(tq_slots::specs::RecordForm::slot_spelt))]
-fn push_slot(out: &mut Vec<u8>, set: &Set) -> Result<(), AllocError>
-    ensures { OnOk result (out.new.items ≡ out.old.items ++ slot_spelt set.now) }
-{
-    match set {
-        Set::Message(_, m) => out.extend_from_slice(&message_bytes(m))?,
-        Set::Queue(_, q) => out.extend_from_slice(&queue_bytes(q))?,
-        Set::Branch(_, b) => out.extend_from_slice(&branch_bytes(b))?,
-    }
+    push_byte(out, tag)?;
+    push_short(out, index)?;
     Ok(())
 }
 
 /// Adds a set.
+#[tactic(auto, unfolding(tq_slots::specs::RecordForm::slot_spelt))]
 fn push_set(out: &mut Vec<u8>, set: &Set) -> Result<(), AllocError>
-    ensures { OnOk result (out.new.items ≡ out.old.items ++ set_spelt set.now) }
+    ensures bytes { OnOk result (out.new.items ≡ out.old.items ++ set_spelt set.now) }
+    ensures set { OnOk result (IsSet set.now) }
 {
-    push_key(out, key(set))?;
-    push_slot(out, set)?;
+    match set {
+        Set::Message(index, m) => {
+            push_key(out, 1, *index)?;
+            out.extend_from_slice(&message_bytes(m))?;
+        }
+        Set::Queue(index, q) => {
+            push_key(out, 2, *index)?;
+            out.extend_from_slice(&queue_bytes(q))?;
+        }
+        Set::Branch(index, b) => {
+            push_key(out, 3, *index)?;
+            out.extend_from_slice(&branch_bytes(b))?;
+        }
+    }
     Ok(())
 }
 
 /// Adds sets.
 fn push_sets(out: &mut Vec<u8>, sets: &[Set]) -> Result<(), AllocError>
-    ensures { OnOk result (out.new.items ≡ out.old.items ++ flat_map set_spelt sets.now) }
+    ensures bytes { OnOk result (out.new.items ≡ out.old.items ++ flat_map set_spelt sets.now) }
+    ensures sets { OnOk result (AreSets sets.now) }
 {
     for set in sets {
         push_set(out, set)?;
@@ -72,7 +73,8 @@ fn push_sets(out: &mut Vec<u8>, sets: &[Set]) -> Result<(), AllocError>
 /// Adds a record of fewer than 65,536 sets.
 fn push_record(out: &mut Vec<u8>, rec: &Rec) -> Result<(), AllocError>
     requires { length rec.now.sets.items < 65536 }
-    ensures { OnOk result (out.new.items ≡ out.old.items ++ spelt (record_view rec.now)) }
+    ensures bytes { OnOk result (out.new.items ≡ out.old.items ++ spelt (record_view rec.now)) }
+    ensures sets { OnOk result (AreSets rec.now.sets.items) }
 {
     push_byte(out, kind_code(rec.kind))?;
     push_short(out, rec.sets.len() as u16)?;
@@ -86,8 +88,9 @@ pub fn encode(alloc: Global, rec: &Rec) -> Result<Vec<u8>, AllocError>
     requires { IsRecord (record_view rec.now) }
     ensures frame { IfOk result (λ frame. IsFrame frame.items) }
     ensures spelt { IfOk result (λ frame. payload_in frame.items ≡ spelt (record_view rec.now)) }
-    // These bytes spell the record, where its numbers are in their ranges, which each value of its type keeps.
-    ensures spells { AreSets rec.now.sets.items → IfOk result (λ frame. IsSpelling (record_view rec.now) (payload_in frame.items)) }
+    // These bytes spell the record, and its numbers are in their ranges, as those of each value of its type.
+    ensures spells { IfOk result (λ frame. IsSpelling (record_view rec.now) (payload_in frame.items)) }
+    ensures sets { OnOk result (AreSets rec.now.sets.items) }
 {
     let mut frame = Vec::new(alloc);
     push_zeros(&mut frame, BEFORE_PAYLOAD)?;

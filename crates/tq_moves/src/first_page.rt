@@ -3,7 +3,7 @@
 ghost use Rattle.std.specs.Prelude.{◌≡◌, ◌<◌, true};
 ghost use Rattle.tq_gate.specs.Frame.{IsFrame, payload_in};
 ghost use Rattle.tq_slots.specs.RecordForm as form;
-ghost use Rattle.tq_slots.specs.RecordForm.{IsMessageAt, IsRecord, changed_at, is_message, key_of, record_view, spelt};
+ghost use Rattle.tq_slots.specs.RecordForm.{AreSets, IsMessageAt, IsRecord, IsSpelling, changed_at, is_message, key_of, record_view, spelt};
 
 use crate::bytes::set_number;
 use tq_gate::BEFORE_PAYLOAD;
@@ -41,6 +41,9 @@ pub fn set_first(rec: &mut Rec, frame: &mut [u8], at: usize, page: u32)
     ensures kind { rec.new.kind ≡ rec.old.kind }
     ensures sets { rec.new.sets.items ≡ changed_at at (form.with_first page) rec.old.sets.items }
     ensures spelt { payload_in frame.new ≡ spelt (record_view rec.new) }
+    // The record keeps its numbers in their ranges, and the bytes spell it.
+    ensures ranges { AreSets rec.old.sets.items → AreSets rec.new.sets.items }
+    ensures spells { AreSets rec.old.sets.items → IsSpelling (record_view rec.new) (payload_in frame.new) }
 {
     rec.sets[at] = with_first(rec.sets[at], page);
     set_number(frame, BEFORE_PAYLOAD + FIRST_PAGE + MESSAGE_SET * at, page);

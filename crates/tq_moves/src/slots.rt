@@ -2,13 +2,16 @@
 
 ghost use Rattle.std.specs.Prelude.{◌≡◌};
 ghost use Rattle.tq_slots.specs.BaseForm.{branch_slot_spelt, message_slot_spelt, queue_slot_spelt};
+ghost use Rattle.tq_slots.specs.Fields.{AreFields};
+ghost use Rattle.tq_slots.specs.RecordForm.{branch_fields, message_fields, queue_fields};
 
 use crate::bytes::{put, put_byte, put_long, put_number, put_zeros};
 use tq_slots::{BranchSlot, MessageSlot, QueueSlot};
 
 /// The bytes of a message slot.
 pub(crate) fn message_bytes(m: &MessageSlot) -> [u8; 64]
-    ensures { result ≡ message_slot_spelt m.now }
+    ensures bytes { result ≡ message_slot_spelt m.now }
+    ensures fields { AreFields (message_fields m.now) }
 {
     let mut bytes = [0; 64];
     let at = put_byte(&mut bytes, 0, m.mark);
@@ -34,7 +37,8 @@ pub(crate) fn message_bytes(m: &MessageSlot) -> [u8; 64]
 
 /// The bytes of a queue slot.
 pub(crate) fn queue_bytes(q: &QueueSlot) -> [u8; 512]
-    ensures { result ≡ queue_slot_spelt q.now }
+    ensures bytes { result ≡ queue_slot_spelt q.now }
+    ensures fields { AreFields (queue_fields q.now) }
 {
     let mut bytes = [0; 512];
     let at = put_byte(&mut bytes, 0, q.used);
@@ -55,7 +59,8 @@ pub(crate) fn queue_bytes(q: &QueueSlot) -> [u8; 512]
 
 /// The bytes of a branch slot.
 pub(crate) fn branch_bytes(b: &BranchSlot) -> [u8; 160]
-    ensures { result ≡ branch_slot_spelt b.now }
+    ensures bytes { result ≡ branch_slot_spelt b.now }
+    ensures fields { AreFields (branch_fields b.now) }
 {
     let mut bytes = [0; 160];
     let at = put_byte(&mut bytes, 0, b.state);

@@ -10,7 +10,7 @@ returns-clause-frame c =
     let payload = spelt (record_view c.args.rec.now) in
     (framed c.push.new.self.items payload
     (c.in_ok-push.ensures.items ∙ ap (λ (l : List ℕ). l ++ 0 ∷ [])
-    (c.in_ok-push_record.ensures ∙ ap (λ (l : List ℕ). l ++ payload) (c.in_ok-push_zeros.ensures
+    (c.in_ok-push_record.ensures.bytes ∙ ap (λ (l : List ℕ). l ++ payload) (c.in_ok-push_zeros.ensures
     ∙ ap (λ (l : List ℕ). l ++ digits 5 0) c.new-frame.ensures.items)))).0
 
 pub returns-clause-spelt : goal.returns-clause-spelt
@@ -18,9 +18,10 @@ returns-clause-spelt c =
     let payload = spelt (record_view c.args.rec.now) in
     (framed c.push.new.self.items payload
     (c.in_ok-push.ensures.items ∙ ap (λ (l : List ℕ). l ++ 0 ∷ [])
-    (c.in_ok-push_record.ensures ∙ ap (λ (l : List ℕ). l ++ payload) (c.in_ok-push_zeros.ensures
+    (c.in_ok-push_record.ensures.bytes ∙ ap (λ (l : List ℕ). l ++ payload) (c.in_ok-push_zeros.ensures
     ∙ ap (λ (l : List ℕ). l ++ digits 5 0) c.new-frame.ensures.items)))).1
 
 pub returns-clause-spells : goal.returns-clause-spells
-returns-clause-spells c = λ are.
-    subst (IsSpelling (record_view c.args.rec.now)) (sym (returns-clause-spelt c)) (record-spelt (record_view c.args.rec.now) are)
+returns-clause-spells c =
+    subst (IsSpelling (record_view c.args.rec.now)) (sym (returns-clause-spelt c))
+    (record-spelt (record_view c.args.rec.now) c.in_ok-push_record.ensures.sets)

@@ -1,9 +1,12 @@
 use Rattle.std.proofs.Common.{◌≡◌, ◌+◌, ◌*◌, ◌<◌, List, ℕ, sym, ap, subst, ◌∙◌, arith}
+use Rattle.std.specs.Prelude.{set}
 use Rattle.tq_field.specs.Places.{with_number}
 use Rattle.tq_gate.specs.Frame.{payload_in}
 use Rattle.tq_slots.specs.declared.record.Set.{Set}
-use Rattle.tq_slots.specs.RecordForm.{record_view, spelt, is_message, key_of, with_first}
+use Rattle.tq_slots.specs.RecordForm.{AreSets, IsSpelling, Record, record_view, spelt, is_message, key_of, with_first}
 use Rattle.tq_slots.proofs.FirstPageLemmas.{place-below, message-is, changed-set, first-written}
+use Rattle.tq_slots.proofs.RecordLemmas.{record-spelt}
+use Rattle.tq_moves.proofs.RangeLemmas.{changed-fit}
 use Rattle.tq_moves.proofs.first_page.set_first.Goals as goal
 
 pub index-requires : goal.index-requires
@@ -51,3 +54,12 @@ returns-clause-spelt c =
     c.requires.frame c.requires.spelt).1
     ∙ ap (λ (l : List Set). spelt (record { kind = c.args.rec.now.kind; sets = l })) (sym (changed-set c.args.at c.args.page sets found c.with_first.result
     c.requires.message (c.with_first.ensures.set ∙ ap (with_first c.args.page) c.index.ensures)))
+
+pub returns-clause-ranges : goal.returns-clause-ranges
+returns-clause-ranges c = λ are.
+    subst AreSets (sym (returns-clause-sets c)) (changed-fit c.args.at c.args.page c.args.rec.now.sets.items (omega arith) are)
+
+pub returns-clause-spells : goal.returns-clause-spells
+returns-clause-spells c = λ are.
+    let after : Record = record { kind = c.args.rec.now.kind; sets = set c.args.rec.now.sets.items c.args.at c.with_first.result } in
+    subst (IsSpelling after) (sym (returns-clause-spelt c)) (record-spelt after (returns-clause-ranges c are))

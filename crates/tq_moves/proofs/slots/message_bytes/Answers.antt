@@ -4,8 +4,8 @@ use Rattle.tq_slots.specs.RecordForm.{message_fields}
 use Rattle.tq_moves.proofs.ByteLemmas.{fields_behind}
 use Rattle.tq_moves.proofs.slots.message_bytes.Goals as goal
 
-pub returns : goal.returns
-returns c =
+pub returns-clause-bytes : goal.returns-clause-bytes
+returns-clause-bytes c =
     sym (take_all c.put_number-end.result c.put_number-end.new.into (omega arith))
     ∙ rw (
       c.put_number-end.ensures.front,
@@ -28,3 +28,7 @@ returns c =
       c.put_byte-at.ensures.front,
     )
     (fields_behind [] (message_fields c.args.m.now))
+
+pub returns-clause-fields : goal.returns-clause-fields
+returns-clause-fields c =
+    (c.put_byte-at.ensures.range, (c.put_byte-at-2.ensures.range, (c.put_byte-at-3.ensures.range, (c.put_byte-at-4.ensures.range, (c.put_byte-at-5.ensures.range, (c.put_byte-at-6.ensures.range, (c.put_byte-at-7.ensures.range, (c.put_byte-at-8.ensures.range, (c.put_number-at.ensures.range, (c.put_number-at-2.ensures.range, (c.put_number-at-3.ensures.range, (c.put_number-at-4.ensures.range, (c.put_long-at.ensures.range, (c.put_long-at-2.ensures.range, (c.put_long-at-3.ensures.range, (c.put_long-at-4.ensures.range, (c.put_number-at-5.ensures.range, (c.put_number-end.ensures.range, tt))))))))))))))))))
