@@ -60,10 +60,13 @@ fn written(store: &mut PageStore, host: &mut MemHost, bytes: &[u8]) -> Result<u3
     ensures chain { IfOk result (λ first. 1 ≤ size_of store.new first) }
     ensures others { OnOk result ((g : ℕ) → 1 ≤ size_of store.old g → 1 ≤ size_of store.new g) }
 {
-    if bytes.is_empty() || (bytes.len() as u64 + 1015) / 1016 > u64::from(store.free_count()) {
+    let size = u32::try_from(bytes.len())
+        .ok()
+        .ok_or("no chain is so long")?;
+    if size == 0 || (u64::from(size) + 1015) / 1016 > u64::from(store.free_count()) {
         return Err(Fail::from("there is no room"));
     }
-    let first = store.take(bytes.len() as u32);
+    let first = store.take(size);
     store
         .put(host, first, bytes)
         .ok()
