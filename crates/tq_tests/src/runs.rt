@@ -3,6 +3,7 @@
 ghost use Rattle.std.specs.Prelude.{◌<◌};
 
 mod faults;
+mod holes;
 mod messages;
 mod serial;
 mod spaces;
