@@ -9,7 +9,7 @@ use std::alloc::Global;
 use std::test::Fail;
 use tq_extent::PageMap;
 use tq_host::MemHost;
-use tq_store::{FileError, SpacePlace, read_space};
+use tq_store::{FileError, SpaceFile, SpacePlace};
 
 /// A byte of a space's pages, and what it is.
 type Byte = (usize, u8);
@@ -124,8 +124,8 @@ fn messages(alloc: Global, more: &[Byte], changes: &[Byte]) -> Result<Option<u64
         site: 1,
         number: 8,
     };
-    match read_space(alloc, &mut host, &place, PageMap::header()) {
-        Ok(space) => Ok(Some(space.message_count())),
+    match SpaceFile::load(alloc, &mut host, &place, PageMap::header()) {
+        Ok(file) => Ok(Some(file.space().message_count())),
         Err(FileError::Damaged) => Ok(None),
         Err(_) => Err(Fail::from("the space is not read")),
     }

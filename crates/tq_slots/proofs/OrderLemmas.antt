@@ -134,7 +134,7 @@ inserted_in_order index x queues own new was =
     (λ q h t z k. ⊎_elim (λ e. inr (sym (eqb-true q.index index t), e)) (λ l. inl l) (of_placed (by_label_total q.queue.order) x q.queue.items z k))
 
 -- once an entry is removed, its arrival is new
-removed_is_new : (id : MsgId) (queues : List IndexedQueue) (x : Entry) → entry_with_id id queues ≡ Some x → Orderly queues
+pub removed_is_new : (id : MsgId) (queues : List IndexedQueue) (x : Entry) → entry_with_id id queues ≡ Some x → Orderly queues
     → IsNew (arrival_of x.message.id) (entry_removed id queues)
 removed_is_new id queues x found was q y h k same =
     let at = of_found id queues x found in

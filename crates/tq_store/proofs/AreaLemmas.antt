@@ -22,15 +22,12 @@ use Rattle.tq_slots.specs.SlotImages.{RawSlots, slots_in, queue_slots_in, with_r
 use Rattle.tq_slots.specs.SlotsLaw.{HoldSpace}
 use Rattle.tq_slots.specs.SpaceReading.{slots_stored, have_places, base_slots, message_at}
 use Rattle.tq_store.specs.declared.place.SpacePlace.{SpacePlace}
+use Rattle.tq_store.specs.Change.{IsSameButItsLog}
 use Rattle.tq_store.specs.Place.{IsPlace, IsCreation, log_layout}
 use Rattle.tq_store.specs.Stored.{HasStore, HasStored, HoldsSpace, IsUsedAt}
 use Rattle.tq_store.proofs.ContentLemmas.{slots_of, slots_by_content}
 use Rattle.tq_store.proofs.KeptLemmas.{creation_kept, after_kept, used_kept, message_kept}
 use Rattle.tq_store.proofs.RecordLemmas.{content_added, content_replaced}
-
--- an image is the same outside the areas of the space's log and their selector
-abbrev pub IsSameButItsLog : SpacePlace → Shape → List ℕ → List ℕ → List ℕ → Type 0
-IsSameButItsLog place shape clusters old new = OnBytes clusters (IsSameBeside (log_layout place shape clusters)) old new
 
 -- the steps of a log that is that of the space
 pub of_areas : (place : SpacePlace) (shape : Shape) (clusters : List ℕ) (log : GateLog) (old new : List ℕ) → layout_of log ≡ log_layout place shape clusters

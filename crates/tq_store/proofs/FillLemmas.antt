@@ -7,7 +7,6 @@ use Rattle.std.specs.List.{All, find, list_all, list_any}
 use Rattle.std.proofs.lemmas.Bool.{and_from, and_parts, false≢true, le-leb}
 use Rattle.std.proofs.lemmas.List.{append_assoc, length-append, map-append}
 use Rattle.std.proofs.lemmas.List.Elements.{All-head, All-tail, All-weaker, filter_map-append}
-use Rattle.tq_types.specs.Label.{arrival_cmp}
 use Rattle.tq_types.specs.declared.messages.Qos.{Qos}
 use Rattle.tq_types.specs.declared.messages.Qos.TheVariants.{Persistent, NonPersistent}
 use Rattle.tq_types.proofs.LabelOrder.{arrival_total}
@@ -31,7 +30,6 @@ use Rattle.tq_slots.specs.MessageSlots.{IndexedEntry, Slots, UsedSlot, said_with
 use Rattle.tq_slots.specs.QueueForm.{are_one_number, queue_of_slot}
 use Rattle.tq_slots.specs.QueueSlots.{have_one_arrival, names_used_queue, the_def, used_slots}
 use Rattle.tq_slots.specs.SlotImages.{used_in, used_of}
-use Rattle.tq_slots.specs.SlotTable.{table_of}
 use Rattle.tq_slots.specs.SpaceOrder.{IsOneOf}
 use Rattle.tq_slots.specs.SpaceReading.{chain_in, is_bare_entry, is_bare_queue, is_persistent_queue, joined, message_at, message_in, pages_of_slots, space_by}
 use Rattle.tq_slots.proofs.ListLemmas.{of_all, some_injective, some_none, the_some}
@@ -43,15 +41,10 @@ use Rattle.tq_store.specs.Stored.{HasStore, pages_in}
 use Rattle.tq_store.proofs.BadChainLemmas.{in_right, no_two_across, not_bad}
 use Rattle.tq_store.proofs.ChainReadingLemmas.{chain_read}
 use Rattle.tq_store.proofs.StoreChangeLemmas.{added_message}
-use Rattle.tq_store.proofs.MessageFillLemmas.{arrival_kept, loaded_more, messages_more, pages_more_by, table_more}
+use Rattle.tq_store.proofs.HeldLemmas.{held_empty, held_more, held_none, slots-snoc, table_empty, table_full, used_none_more}
+use Rattle.tq_store.proofs.MessageFillLemmas.{arrival_kept, loaded_more, messages_more, pages_more_by}
 use Rattle.tq_store.proofs.ReadSpaceLemmas.{IsReadAs, bare_said, none_by, read_parts}
-use Rattle.tq_store.proofs.SnocLemmas.{table-none}
 use Rattle.tq_store.proofs.StoreFillLemmas.{chains_more, covered_empty, covered_more, free_empty, store_empty, store_more, store_none, store_of_slots}
-use Rattle.tq_store.proofs.StoreFillLemmas.{used_more}
-
-slots-snoc : (messages : List MessageSlot) (slot : MessageSlot) (o : Option UsedSlot) → used_of slot ≡ o
-    → map used_of (messages ++ slot ∷ []) ≡ map used_of messages ++ o ∷ []
-slots-snoc messages slot o is = map-append used_of messages (slot ∷ []) ∙ ap (λ (x : Option UsedSlot). map used_of messages ++ x ∷ []) is
 
 -- a chain of a store with these slots is read
 module _ (shape : Shape) (clusters : List ℕ) (queues : List QueueSlot) (messages : List MessageSlot) (store : Store)
@@ -77,6 +70,7 @@ module _ (place : SpacePlace) (shape : Shape) (clusters : List ℕ) (queues : Li
         dev = refl;
         room = omega (arith, has.pages, limits, free, overhead, all);
         covered = covered_empty shape clusters queues place.dev first pages overhead all is;
+        held = held_empty place.site place.number shape queues (new_store place.dev clusters first pages) s has;
       }
 
   pub begun_read : (bytes : List ℕ) → HasRead place.site place.number shape [] s (new_store place.dev clusters first pages) bytes
@@ -97,18 +91,15 @@ module _ (place : SpacePlace) (shape : Shape) (clusters : List ℕ) (queues : Li
         dev = has.dev;
         room = has.room;
         covered = has.covered;
+        held = held_none place.site place.number messages slot none queues store s has.held;
       }
 
   pub none_read : (bytes : List ℕ) → used_of slot ≡ None → HasRead place.site place.number shape messages s store bytes
       → HasRead place.site place.number shape (messages ++ slot ∷ []) s store bytes
   none_read bytes none read =
-      let slots = map used_of messages in
-      let all = slots-snoc messages slot None none in
       record {
-        chains = λ i m at. ⊎_elim (λ before. read.chains i m before) (λ here. absurd (some_none (sym here)))
-            (used_more slots None i m (sym (ap (λ (l : Slots). get_or l i None) all) ∙ at));
-        kept = ap (table_of arrival_cmp slot_arrival (says place.site place.number (message_at shape bytes))) all
-            ∙ table-none slot_arrival (says place.site place.number (message_at shape bytes)) slots ∙ read.kept;
+        chains = λ i m at. read.chains i m (used_none_more place.site place.number messages slot none i m at);
+        kept = table_empty place.site place.number messages slot none (message_at shape bytes) (kept_in s) read.kept;
       }
 
   module _ (used : used_of slot ≡ Some (used_in slot)) (bytes : List ℕ) where
@@ -129,12 +120,13 @@ module _ (place : SpacePlace) (shape : Shape) (clusters : List ℕ) (queues : Li
             dev = e.added.pages.dev ∙ has.dev;
             room = omega (arith, has.room, pages, count);
             covered = covered_more shape clusters queues messages slot store new (length e.stored) has.store used e.some e.added e.sound has.covered;
+            held = held_more place.site place.number shape queues messages slot s has.loaded used e.stored e.item e.message e.there e.first_one clusters store new
+                has.store e.some e.added e.sound has.held;
           })
 
       pub message_filled_from : told → 1024 * shape.pages ≤ length bytes → HasRead place.site place.number shape messages s store bytes
           → HasRead place.site place.number shape (messages ++ slot ∷ []) s' new bytes
       message_filled_from t long read =
-          let slots = map used_of messages in
           let chain = added_message shape clusters (slots_of queues messages []) store new slot.first (length e.stored) has.store e.sound e.added bytes
           (e.chain t) e.some
           (subst (λ (n : ℕ). 1024 * n ≤ length bytes) (sym has.store.pages) long) ∙ ap message_in (sym (e.read t)) in
@@ -142,10 +134,8 @@ module _ (place : SpacePlace) (shape : Shape) (clusters : List ℕ) (queues : Li
           (record {
             chains = chains_more shape clusters queues messages slot store new (length e.stored) has.store used e.some e.added e.sound bytes read.chains
                 (e.chain t);
-            kept = ap (table_of arrival_cmp slot_arrival (says place.site place.number (message_at shape bytes)))
-                (slots-snoc messages slot (Some (used_in slot)) used)
-                ∙ table_more place.site place.number shape queues s has.loaded slot e.stored e.item e.message e.there e.first_one (message_at shape bytes)
-                slots chain read.kept;
+            kept = table_full place.site place.number shape queues messages slot s has.loaded used e.stored e.item e.message e.there e.first_one
+                (message_at shape bytes) chain read.kept;
           })
 
     -- ---- a slot that is not one more

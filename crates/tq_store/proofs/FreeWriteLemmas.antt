@@ -22,14 +22,14 @@ page_before i n lt = omega arith
 
 module _ (shape : Shape) (clusters : List ℕ) (raw : RawSlots) (store : Store) (has : HasStore shape clusters raw store) (old new : List ℕ)
     (stored : HasStored shape clusters raw store old) (frame : IsSameButFree store old new) where
-  free_step : OnBytes clusters (IsSameInUse store) old new
+  pub free_step : OnBytes clusters (IsSameInUse store) old new
   free_step = subst (λ (cs : List ℕ). OnBytes cs (IsSameInUse store) old new) has.clusters_are frame
 
-  free_reach : reaches clusters new ≡ true
+  pub free_reach : reaches clusters new ≡ true
   free_reach = reaches_same clusters old new free_step.size ∙ stored.reach
 
   -- no page before those of messages is free
-  head_kept : (i : ℕ) → i < 1024 * overhead_pages shape → get_or (owned_bytes clusters new) i 0 ≡ get_or (owned_bytes clusters old) i 0
+  pub head_kept : (i : ℕ) → i < 1024 * overhead_pages shape → get_or (owned_bytes clusters new) i 0 ≡ get_or (owned_bytes clusters old) i 0
   head_kept i lt = free_step.bytes.outside i (has.overhead (i / 1024) (page_before i (overhead_pages shape) lt))
 
   pub free_stored : HasStored shape clusters raw store new

@@ -23,3 +23,11 @@ pub mod StoreFillLemmas
 pub mod BadChainLemmas
 pub mod FillLemmas
 pub mod LoadedLemmas
+pub mod FileStepLemmas
+pub mod ChangeLemmas
+pub mod SoundMoveLemmas
+pub mod PlanSlotLemmas
+pub mod DraftLemmas
+pub mod HeldLemmas
+pub mod MoveChangeLemmas
+pub mod ReadyLemmas

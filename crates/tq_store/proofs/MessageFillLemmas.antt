@@ -54,8 +54,14 @@ use Rattle.tq_store.proofs.SaidLemmas.{header_long}
 
 -- ---- lists of queues
 
+-- what holds of each holds of one of them
+pub of_each : {X : Type 0} (P : X → Type 0) (xs : List X) (x : X) → All P xs → IsOneOf xs x → P x
+of_each P [] x all h = absurd h
+of_each P (y ∷ xs) x all (inl e) = subst P e (All-head P y xs all)
+of_each P (y ∷ xs) x all (inr h) = of_each P xs x (All-tail P y xs all) h
+
 -- an entry that comes in is in the queue of its index
-inserted_there : (index : ℕ) (x : Entry) (queues : List IndexedQueue) → list_any (has_index index) queues ≡ true
+pub inserted_there : (index : ℕ) (x : Entry) (queues : List IndexedQueue) → list_any (has_index index) queues ≡ true
     → (q : IndexedQueue) × IsOneOf (entry_inserted index x queues) q × (q.index ≡ index) × IsOneOf q.queue.items x
 inserted_there index x [] = λ there. absurd (false≢true there)
 inserted_there index x (q ∷ queues) =
@@ -84,11 +90,6 @@ module _ (site number : ℕ) (shape : Shape) (queues : List QueueSlot) (s : Inde
 
   pub entry_loaded : (q : IndexedQueue) (x : Entry) → IsOneOf s.queues q → IsOneOf q.queue.items x → IsLoadedEntry site number x
   entry_loaded q x in_q in_x = of_each (IsLoadedEntry site number) q.queue.items x (of_each (IsLoadedQueue site number) s.queues q loaded.each in_q).items in_x
-    where
-      of_each : {X : Type 0} (P : X → Type 0) (xs : List X) (x : X) → All P xs → IsOneOf xs x → P x
-      of_each P [] x all h = absurd h
-      of_each P (y ∷ xs) x all (inl e) = subst P e (All-head P y xs all)
-      of_each P (y ∷ xs) x all (inr h) = of_each P xs x (All-tail P y xs all) h
 
   -- an arrival that no entry has is new
   pub arrival_new : (a : Arrival) → holds_arrival s a ≡ false → IsNew a s.queues

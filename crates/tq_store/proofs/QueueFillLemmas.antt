@@ -57,6 +57,47 @@ pub index_unused : (queue_slots : QueueSlots) (queues : List IndexedQueue) (inde
     → list_any (has_index index) queues ≡ false
 index_unused queue_slots queues index have none = any-find (has_index index) queues ∙ none_found the_def (find (has_index index) queues) (sym none ∙ have index)
 
+-- ---- a queue that is put
+
+module _ (index : ℕ) (d : QueueDef) (s : IndexedSpace) (unused : list_any (has_index index) s.queues ≡ false)
+    (new : list_any (holds_name d.name) s.queues ≡ false) (was : IsInOrder s) where
+  abbrev put_plan : SpacePlan
+  put_plan = record { purge = []; moves = PutQueue index d ∷ [] }
+
+  abbrev put_after : IndexedSpace
+  put_after = moved (PutQueue index d) s
+
+  no_name : (q : IndexedQueue) → IsOneOf s.queues q → q.queue.name ≡ d.name → ⊥
+  no_name q h same = false≢true (sym new ∙ to_any (holds_name d.name) s.queues q h (name_itself q.queue.name d.name same))
+
+  pub put_fits : MovesFit put_plan.moves s
+  put_fits = (
+    record {
+      kept = λ q h e. absurd (false≢true (sym unused ∙ to_any (has_index index) s.queues q h (ap (λ (n : ℕ). n == index) e ∙ eq_itself index)));
+      new = λ u q h e. no_name q h e;
+    },
+    tt,
+  )
+
+  pub put_is : put_after.queues ≡ queue_added index d s.queues
+  put_is =
+      ap (λ (b : Bool). cond b (change_first (has_index index) (on_queue (λ (queue : Queue). queue_of d queue.items)) s.queues)
+      (queue_added index d s.queues)) unused
+
+  pub put_order : IsInOrder put_after
+  put_order = plan_in_order put_plan s put_fits was
+
+  put_there : IsOneOf put_after.queues (made index d)
+  put_there = subst (λ (qs : List IndexedQueue). IsOneOf qs (made index d)) (sym put_is)
+      (to_placed by_name_total (made index d) s.queues (made index d) (inl refl))
+
+  pub put_def : def_at index put_after.queues ≡ Some d
+  put_def = to_def put_after.queues (made index d) put_there (λ r h e. put_order.entries.indices r (made index d) h put_there e)
+
+  -- nothing else is kept
+  pub put_kept : kept_in put_after ≡ kept_in s
+  put_kept = same_map arrival_total exact_arrivals (kept_in put_after) (kept_in s) (λ a. sym (changes_named put_plan s put_fits a refl))
+
 -- ---- one slot more
 
 module _ (site number : ℕ) (shape : Shape) (slots : List QueueSlot) (slot : QueueSlot) (s : IndexedSpace) (has : HasQueues site number shape slots s) where
@@ -89,44 +130,24 @@ module _ (site number : ℕ) (shape : Shape) (slots : List QueueSlot) (slot : Qu
       }
 
   module _ (d : QueueDef) (is : queue_of_slot slot ≡ Some d) (can : can_take (Some d) s ≡ true) where
-    abbrev plan : SpacePlan
-    plan = record { purge = []; moves = PutQueue index d ∷ [] }
-
     abbrev after : IndexedSpace
     after = moved (PutQueue index d) s
 
     unused : list_any (has_index index) s.queues ≡ false
     unused = index_unused queue_slots s.queues index has.loaded.have (get_or-eq_default queue_slots None (omega (arith, long)))
 
-    fresh : (q : IndexedQueue) → IsOneOf s.queues q → q.queue.name ≡ d.name → ⊥
-    fresh q h same =
-        let new = not_true (list_any (holds_name d.name) s.queues)
-        (and_parts (not (list_any (holds_name d.name) s.queues)) (is_bare_queue (queue_of d [])) can).0 in
-        false≢true (sym new ∙ to_any (holds_name d.name) s.queues q h (name_itself q.queue.name d.name same))
+    new_name : list_any (holds_name d.name) s.queues ≡ false
+    new_name = not_true (list_any (holds_name d.name) s.queues)
+        (and_parts (not (list_any (holds_name d.name) s.queues)) (is_bare_queue (queue_of d [])) can).0
 
-    fits : MovesFit plan.moves s
-    fits = (
-      record {
-        kept = λ q h e. absurd (false≢true (sym unused ∙ to_any (has_index index) s.queues q h (ap (λ (n : ℕ). n == index) e ∙ eq_itself index)));
-        new = λ u q h e. fresh q h e;
-      },
-      tt,
-    )
-
-    put_is : after.queues ≡ queue_added index d s.queues
-    put_is =
-        ap (λ (b : Bool). cond b (change_first (has_index index) (on_queue (λ (queue : Queue). queue_of d queue.items)) s.queues)
-        (queue_added index d s.queues)) unused
+    is_added : after.queues ≡ queue_added index d s.queues
+    is_added = put_is index d s unused new_name has.loaded.order
 
     order : IsInOrder after
-    order = plan_in_order plan s fits has.loaded.order
-
-    put_there : IsOneOf after.queues (made index d)
-    put_there = subst (λ (qs : List IndexedQueue). IsOneOf qs (made index d)) (sym put_is)
-        (to_placed by_name_total (made index d) s.queues (made index d) (inl refl))
+    order = put_order index d s unused new_name has.loaded.order
 
     def_new : def_at index after.queues ≡ Some d
-    def_new = to_def after.queues (made index d) put_there (λ r h e. order.entries.indices r (made index d) h put_there e)
+    def_new = put_def index d s unused new_name has.loaded.order
 
     have_more : HaveQueues (map queue_of_slot (slots ++ slot ∷ [])) after.queues
     have_more i =
@@ -143,7 +164,7 @@ module _ (site number : ℕ) (shape : Shape) (slots : List QueueSlot) (slot : Qu
         (cases_Bool (i == index))
 
     counted : (g : Queue → ℕ) → g (queue_of d []) ≡ 0 → total g after.queues ≡ total g s.queues
-    counted g none = ap (total g) put_is ∙ total_added g index d none s.queues
+    counted g none = ap (total g) is_added ∙ total_added g index d none s.queues
 
     some_more : HasQueues site number shape (slots ++ slot ∷ []) after
     some_more =
@@ -153,7 +174,7 @@ module _ (site number : ℕ) (shape : Shape) (slots : List QueueSlot) (slot : Qu
             is = ap (λ (x : IndexedSpace). record x { queues = after.queues }) l.is;
             have = have_more;
             order = order;
-            each = subst (All (IsLoadedQueue site number)) (sym put_is)
+            each = subst (All (IsLoadedQueue site number)) (sym is_added)
                 (All-insert (IsLoadedQueue site number) s.queues (position_or_len (comes_before d.name) s.queues) (made index d)
                 (record {
                   def = (and_parts (not (list_any (holds_name d.name) s.queues)) (is_bare_queue (queue_of d [])) can).1;
@@ -162,7 +183,7 @@ module _ (site number : ℕ) (shape : Shape) (slots : List QueueSlot) (slot : Qu
           };
           messages = counted length_of refl ∙ has.messages;
           pages = counted queue_pages refl ∙ has.pages;
-          kept = same_map arrival_total exact_arrivals (kept_in after) (kept_in s) (λ a. sym (changes_named plan s fits a refl)) ∙ has.kept;
+          kept = put_kept index d s unused new_name has.loaded.order ∙ has.kept;
         }
 
   pub queue_more : can_take (queue_of_slot slot) s ≡ true → HasQueues site number shape (slots ++ slot ∷ []) (queue_taken index (queue_of_slot slot) s)

@@ -80,7 +80,7 @@ module _ (shape : Shape) (clusters : List ℕ) (queues : List QueueSlot) (messag
   all_used : map used_of (messages ++ slot ∷ []) ≡ map used_of messages ++ Some (used_in slot) ∷ []
   all_used = map-append used_of messages (slot ∷ []) ∙ ap (λ (o : Option UsedSlot). map used_of messages ++ o ∷ []) used
 
-  size_kept : (g : ℕ) → 1 ≤ size_of old g → size_of new g ≡ size_of old g
+  pub size_kept : (g : ℕ) → 1 ≤ size_of old g → size_of new g ≡ size_of old g
   size_kept g there = added.chains g (λ e. (let none = ap (size_of old) e ∙ added.none in absurd (omega (arith, none, there))))
 
   pub store_more : HasStore shape clusters (slots_of queues (messages ++ slot ∷ []) []) new

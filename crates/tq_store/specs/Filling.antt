@@ -29,6 +29,7 @@ use Rattle.tq_slots.specs.SpaceOrder.{IsInOrder}
 use Rattle.tq_slots.specs.SpaceReading.{is_bare_entry, is_bare_queue, message_at, message_in, with_queues}
 use Rattle.tq_slots.specs.MessageSlots.{UsedSlot}
 use Rattle.tq_store.specs.declared.place.SpacePlace.{SpacePlace}
+use Rattle.tq_store.specs.File.{IsHeld}
 use Rattle.tq_store.specs.Sound.{IsSpaceOf}
 use Rattle.tq_store.specs.Stored.{HasStore, HoldsSpace, IsUsedAt}
 
@@ -91,6 +92,7 @@ pub record HasFilled (place : SpacePlace) (shape : Shape) (clusters : List ℕ) 
   pub dev : pages.dev ≡ place.dev
   pub room : free_pages pages + pages_held (space_of s) ≡ s.limits.pages
   pub covered : (page : ℕ) → overhead_pages shape ≤ page → page < shape.pages → (is_free pages page ≡ true) ⊎ IsOnChain pages page
+  pub held : IsHeld place.site place.number (slots_of queues messages []) pages s
 
 -- What the owner's bytes have of these slots.
 pub record HasRead (site number : ℕ) (shape : Shape) (messages : List MessageSlot) (s : IndexedSpace) (store : Store) (bytes : List ℕ) : Type 0 where

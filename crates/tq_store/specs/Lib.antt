@@ -7,3 +7,9 @@ pub mod Sound
 pub mod SlotReading
 pub mod Reading
 pub mod Filling
+pub mod File
+pub mod Change
+pub mod Commit
+pub mod Draft
+pub mod Drafted
+pub mod FileView

@@ -1,19 +1,13 @@
 -- What holds of a space in memory and of its slots, by its place and its creation.
-use Rattle.std.specs.Prelude.{◌≡◌, ℕ, ◌+◌, ◌*◌, true, List, length}
-use Rattle.tq_gate.specs.declared.log.GateLog.{GateLog}
-use Rattle.tq_gate.specs.Log.{layout_of}
+use Rattle.std.specs.Prelude.{◌≡◌, true, length}
 use Rattle.tq_model.specs.declared.space.Shape.{Shape}
-use Rattle.tq_model.specs.Space.{limits_of, slot_pages}
-use Rattle.tq_model.specs.Moves.{IndexedSpace, space_of}
+use Rattle.tq_model.specs.Space.{limits_of}
+use Rattle.tq_model.specs.Moves.{IndexedSpace}
 use Rattle.tq_model.specs.Plain.{IsOwn, KeepsAllAtCrash}
 use Rattle.tq_model.specs.Reading.{hold_all}
-use Rattle.tq_model.specs.Room.{pages_held}
-use Rattle.tq_pages.specs.Store.{Store, free_pages}
 use Rattle.tq_slots.specs.SlotImages.{RawSlots}
 use Rattle.tq_slots.specs.SpaceReading.{space_tests}
 use Rattle.tq_store.specs.declared.place.SpacePlace.{SpacePlace}
-use Rattle.tq_store.specs.Place.{IsPlace, IsCreation, log_layout}
-use Rattle.tq_store.specs.Stored.{HasStore}
 
 -- as many slots as a creation says
 pub record HasSlotsOf (shape : Shape) (raw : RawSlots) : Type 0 where

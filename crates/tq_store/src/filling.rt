@@ -19,6 +19,7 @@ ghost use Rattle.tq_slots.specs.declared.record.BranchSlot.{BranchSlot};
 ghost use Rattle.tq_slots.specs.declared.record.MessageSlot.{MessageSlot as MessageSlotOf};
 ghost use Rattle.tq_space.specs.Plain.{CanMove};
 ghost use Rattle.tq_store.specs.declared.fault.FileError.TheVariants as file_error;
+ghost use Rattle.tq_store.specs.File.{IsHeld};
 ghost use Rattle.tq_store.specs.Filling.{slots_of, queue_taken, can_take, is_said_bare, HasQueues, IsMessage, HasEntered, IsUnfit, IsFilled, IsFilledFrom};
 ghost use Rattle.tq_store.specs.Place.{IsPlace, IsCreation};
 
@@ -183,6 +184,8 @@ pub(crate) fn fill<H: Host>(
     ensures filled { IfOk result (λ f. IsFilled place.now shape.now map queues.now messages.now f.space.held f.store) }
     ensures from { IfOk result (λ f. H.tells.reads → (branches : List BranchSlot) → hold_all (slot_tests (slots_of queues.now messages.now branches)) ≡ true
         → IsFilledFrom place.now shape.now map (slots_of queues.now messages.now branches) f.space.held f.store ((H.view host.old).reads place.now.dev)) }
+    ensures held { IfOk result (λ f. (branches : List BranchSlot)
+        → IsHeld place.now.site place.now.number (slots_of queues.now messages.now branches) f.store f.space.held) }
     ensures damaged { result ≡ Err file_error.Damaged → H.tells.reads → (branches : List BranchSlot)
         → space_by place.now.site place.now.number shape.now (owned_bytes map ((H.view host.old).reads place.now.dev))
         (slots_of queues.now messages.now branches) ≡ None }

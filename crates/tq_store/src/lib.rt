@@ -4,7 +4,10 @@
 
 mod bareness;
 mod bytes;
+mod changing;
+mod durable;
 mod fault;
+mod file;
 mod filling;
 mod formatting;
 mod loading;
@@ -14,6 +17,6 @@ mod reading;
 mod slots;
 
 pub use fault::{CommitError, FileError};
+pub use file::SpaceFile;
 pub use formatting::format;
-pub use loading::read_space;
 pub use place::SpacePlace;

@@ -5,18 +5,20 @@ ghost use Rattle.std.specs.List.{list_all};
 ghost use Rattle.tq_model.specs.Reading.{hold_all};
 ghost use Rattle.tq_model.specs.Space as model;
 ghost use Rattle.tq_slots.specs.RecordForm.{record_view};
-ghost use Rattle.tq_slots.specs.SlotImages.{with_record, with_set};
+ghost use Rattle.tq_slots.specs.SlotImages.{slots_in, with_record, with_set};
 ghost use Rattle.tq_slots.specs.SpaceReading as reading;
 ghost use Rattle.tq_slots.specs.SpaceReading.{base_slots, slot_tests, slots_by};
+ghost use Rattle.tq_slottable.specs.Places.{HasDistinctArrivals};
 ghost use Rattle.tq_store.specs.SlotReading.{bytes_of, followed, slots_left, IsMissing};
 ghost use Rattle.tq_store.specs.Sound.{HasSlotsOf};
 
 use crate::FileError;
-use std::alloc::Global;
+use std::alloc::{AllocError, Global};
 use std::marker::Model;
 use tq_model::Shape;
 use tq_moves::{decode, has_base_mark, is_free_slot, queue_in, slots_in_base};
 use tq_slots::{BranchSlot, MessageSlot, QueueSlot, Rec, Set};
+use tq_slottable::SlotTable;
 
 /// The slots of a space: those of its queues, its messages and its branches.
 #[derive(Drop)]
@@ -47,6 +49,15 @@ impl Slots {
         ensures { result.now ≡ self.now.messages }
     {
         &self.messages
+    }
+
+    /// The same slots, where one is found by its message.
+    pub(crate) fn into_table(self, alloc: Global) -> Result<SlotTable, AllocError>
+        requires few { length self.messages ≤ 65536 }
+        requires once { HasDistinctArrivals (slots_in self) }
+        ensures { IfOk result (λ table. table ≡ self) }
+    {
+        SlotTable::new(alloc, self.queues, self.messages, self.branches)
     }
 }
 

@@ -26,6 +26,7 @@ use Rattle.tq_store.specs.Place.{IsCreation, IsPlace}
 use Rattle.tq_store.proofs.BadChainLemmas.{at_place}
 use Rattle.tq_store.proofs.ErrorLemmas.{handed_back, handed_on, no_error}
 use Rattle.tq_store.proofs.FillLemmas.{begun_filled, begun_read, message_filled, message_filled_from, none_filled, none_read, unfit_unread, whole_filled}
+use Rattle.tq_store.proofs.HeldLemmas.{held_of_slots}
 use Rattle.tq_store.proofs.SnocLemmas.{part-more, part-next}
 use Rattle.tq_store.proofs.filling.fill.Goals.{then-slot-ne0+in_ok-take_message, else-slot-ne0}
 use Rattle.tq_store.proofs.filling.fill.Goals as goal
@@ -254,3 +255,14 @@ returns-clause-from g c = λ told branches judged.
       holds = record { holds = record { queues = loaded.have; kept = read.kept; order = loaded.order }; slots = judged };
       chains = λ i m at. read.chains i m at;
     }
+
+pub returns-clause-held : goal.returns-clause-held
+returns-clause-held g c = λ branches.
+    let place = c.args.place.now in
+    let queues = c.args.queues.now in
+    let all = c.args.messages.now in
+    let held = c.loop-slot.space.held in
+    let store = c.loop-slot.store in
+    let done = take_all c.loop-slot.slot-index all c.loop-slot-test.false in
+    let filled = subst (λ (l : List MessageSlot). HasFilled place c.args.shape.now c.args.map queues l held store) done c.loop-slot.invariant.filled in
+    held_of_slots place.site place.number queues all [] branches store held filled.held

@@ -1,0 +1,4 @@
+pub mod OrderedLists
+pub mod PlaceLemmas
+pub mod TableLemmas
+pub mod SortLemmas
